@@ -1,8 +1,9 @@
 #!/usr/bin/env python3
-"""Prints what users wait for at the desk: for `report` of a hundred dumps, `lyrics` of a song of four minutes, `film` of forty
-seconds of it and `picture` of a photo, the processor seconds of the desk and of all that it starts (ffmpeg too), the least of
-RUNS runs (three, or what the environment says), and those by the clock. With --desk another desk is measured, as that of another
-checkout, and with --keep the files that were made stay in a folder, to be compared."""
+"""Prints the times of slow commands of the desk: `report` for a hundred dumps, `lyrics` for a song of four minutes,
+`film` for forty seconds of it, and `picture` for a photo. One column is the processor time of the desk and of all
+processes that it starts (ffmpeg too), the other is the elapsed time, both in seconds. Each time is the minimum of RUNS
+runs (three, or the environment variable). --desk measures another desk, for example that of another checkout. --keep
+keeps the files that the commands write in a folder, so that they can be compared."""
 from __future__ import annotations
 
 import argparse
@@ -28,14 +29,14 @@ WORDS = "silver road that spins in the light and music runs between notes where 
 
 
 class Took(NamedTuple):
-    """What a run took of the processor and by the clock, in seconds."""
+    """The processor time and the elapsed time of a run, in seconds."""
 
     processor: float
     clock: float
 
 
 class Row(NamedTuple):
-    """What is measured: a command, what its input is, and its words, with a folder that is made for it."""
+    """A measured command: its name, its input, and a function that makes its words for an output folder."""
 
     command: str
     what: str
@@ -57,7 +58,7 @@ def clock(second: float) -> str:
 
 
 def photo(path: Path) -> None:
-    """Soft colours with noise, as a camera sees them, as a pixmap."""
+    """A pixmap of soft colours with noise, like a photo."""
     wide, high = PHOTO
     chance, grain = random.Random(2), int.from_bytes(bytes([15]) * 3 * wide, "big")
     bends = [(chance.uniform(1, 9), chance.uniform(1, 9), chance.uniform(0, 6)) for _ in range(3)]
@@ -71,14 +72,14 @@ def photo(path: Path) -> None:
 
 
 def program(words: list[str], out: Path) -> Path:
-    """What the program writes."""
+    """The file with the output of the program."""
     with open(out, "wb") as file:
         subprocess.run([PROGRAM, *words], stdin=subprocess.DEVNULL, stdout=file, check=True)
     return out
 
 
 def dumps(work: Path) -> Path:
-    """A hundred dumps of a megabyte, all but the first scratched."""
+    """A hundred dumps of a megabyte, all scratched except the first."""
     folder, script = work / "dumps", work / "pictures"
     folder.mkdir()
     script.write_bytes(subprocess.run([PROGRAM, "gen", "--seed", "1", "--pictures", "12"], capture_output=True, check=True).stdout)
@@ -89,7 +90,7 @@ def dumps(work: Path) -> Path:
 
 
 def rows(work: Path, desk: Callable[..., list[str]]) -> list[Row]:
-    """What is measured, once its inputs are made."""
+    """The measured commands, after their inputs are made."""
     (work / "sheet").write_text(SHEET)
     (work / "song.lrc").write_text(lyrics())
     photo(work / "photo.ppm")
@@ -145,7 +146,7 @@ def main() -> int:
     if subprocess.run([python, "-c", "import PIL"], stderr=subprocess.DEVNULL).returncode:
         print("desk: skipped, there is no Pillow (python3-pil)")
         return 0
-    # As users have it: what Python makes of its sources is kept.
+    # As for a user, Python keeps its compiled files.
     os.environ.pop("PYTHONDONTWRITEBYTECODE", None)
     os.environ.setdefault("RIBJASPER_LIBRARY", str(LIBRARY))
     os.environ.setdefault("RIBJASPER_PROGRAM", str(PROGRAM))

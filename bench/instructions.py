@@ -1,9 +1,10 @@
 #!/usr/bin/env python3
-"""Counts the instructions that each command takes, by valgrind, on inputs of 4 MB: instructions.py [--check | --write]
+"""Counts the instructions of each command with valgrind, on inputs of 4 MB: instructions.py [--check | --write]
 
-Instructions are not moved by what else the machine does, so they hold on any machine for the same program. Without a word
-it prints a table, and beside ours what the plain program (bench/reference.rs) takes, if rustc is there to build it.
-`--check` compares with bench/instructions.tsv and fails if a command takes over 3 % more; `--write` writes that file anew."""
+Other processes do not change the number of instructions, so the counts of a program hold on any machine. Without an
+option, the script prints a table, with the counts of the plain program (bench/reference.rs) beside ours if rustc is
+there to build it. `--check` compares with bench/instructions.tsv and fails if a command needs over 3 % more. `--write`
+overwrites that file."""
 from __future__ import annotations
 
 import argparse
@@ -19,7 +20,7 @@ from typing import NamedTuple, Sequence
 TOP = Path(__file__).resolve().parent.parent
 PROGRAM = TOP / "bin" / "ribjasper"
 KEPT = Path(__file__).resolve().parent / "instructions.tsv"
-# How much more than what is kept passes.
+# The greatest allowed ratio to the stored count.
 SHARE = 1.03
 BLOCKS = 41_664
 END = "08:53:45"
@@ -27,7 +28,7 @@ LATE = "08:53:25"
 
 
 class Row(NamedTuple):
-    """A command, the names of its inputs, and what they are."""
+    """A command, the names of its inputs, and a description of them."""
 
     words: str
     inputs: tuple[str, ...]
@@ -63,10 +64,11 @@ ROWS = (
     Row(f"resume --at {LATE}", ("begun", "rest"), "authored"),
     Row("trial --seed 1 --pictures 50", (), "50 pictures"),
 )
-# What the environment holds lies on the stack of a program, and is read as it starts. The C library copies and clears by what
-# the processor has; here it takes what each has, so that a count holds on all of them.
+# The environment lies on the stack of a program, and is read when it starts. The functions of the C library for copying
+# and clearing depend on the processor; these settings choose those that every processor has, so a count is the same
+# on every processor.
 ENVIRONMENT = {"PATH": "/usr/bin:/bin", "GLIBC_TUNABLES": "glibc.cpu.hwcaps=-AVX2,-AVX512F,-AVX512VL,-ERMS,-FSRM"}
-# The commands that the plain program takes by name and last option alone.
+# The commands of which the plain program reads only the name and the last option.
 WITH_OPTION = ("screen", "state", "scratch", "text", "author", "press", "resume")
 
 
@@ -76,7 +78,7 @@ def told_time(block: int) -> str:
 
 
 def ran(words: Sequence[str], files: Sequence[Path]) -> subprocess.CompletedProcess[bytes]:
-    """A run of a command: a single input is its standard input, two are named."""
+    """Runs a command: one input is its standard input, two are given by name."""
     named = ["--", *map(str, files)] if len(files) > 1 else []
     with open(files[0] if len(files) == 1 else os.devnull, "rb") as given:
         return subprocess.run([*words, *named], env=ENVIRONMENT, stdin=given, capture_output=True)
@@ -112,7 +114,7 @@ def inputs(work: Path) -> dict[str, Path]:
 
 
 def instructions(words: Sequence[str], files: Sequence[Path]) -> int:
-    """How many instructions a run takes."""
+    """The number of instructions of a run."""
     valgrind = ["valgrind", "--tool=cachegrind", "--cache-sim=no", "--cachegrind-out-file=/dev/null"]
     told = ran([*valgrind, *words], files).stderr.decode(errors="replace")
     found = re.search(r"I +refs: +([0-9,]+)", told)
@@ -131,7 +133,7 @@ def reference(work: Path) -> Path | None:
 
 
 def plain_words(program: Path, words: str) -> list[str]:
-    """What asks the plain program for the work of a command."""
+    """The words with which the plain program does the work of a command."""
     name, *options = words.split()
     if name == "trial":
         return [str(program), name, options[1], options[3]]
@@ -144,7 +146,7 @@ def kept() -> dict[str, int]:
 
 
 def judge(counts: dict[str, int]) -> list[str]:
-    """What is slower than what is kept, in words."""
+    """The commands that need too many instructions, in words."""
     wanted = kept()
     told = [f"{name} is not in {KEPT.name}" for name in counts if name not in wanted]
     for name, count in counts.items():

@@ -1,24 +1,24 @@
-//! A plain program in Rust that does the work of some commands, to measure ours against: reference COMMAND <in >out.
+//! A plain program in Rust that does the work of some commands, so that our times can be compared: reference COMMAND <in >out.
 //!
-//! It is written to be short and fast, as one would without proofs: `convert`, `check`, `screen TIME`, `state TIME`, `q`,
-//! `planar`, `raw`, `scratch SEED`, `save`, each of a stream of raw blocks without lead-in, `text LEAD-IN`, `thin`,
+//! It is short and fast, as one would write it without proofs. `convert`, `check`, `screen TIME`, `state TIME`, `q`, `planar`,
+//! `raw`, `scratch SEED` and `save` read a stream of raw blocks without lead-in. The other commands are `text LEAD-IN`, `thin`,
 //! `author LENGTH -- SHEET SCRIPT`, `press LENGTH -- SHEET FILE`, `merge -- FIRST SECOND`, `resume TIME -- SAVE REST` and
-//! `trial SEED PICTURES`. Of Q frames it knows those of a program, of sheets tracks and index lines, and it refuses with few
-//! words.
+//! `trial SEED PICTURES`. It reads only the Q frames of a program, and only the tracks and index lines of sheets, and its
+//! error messages are short.
 use std::fs::{self, File};
 use std::io::{self, BufReader, BufWriter, Read, Stdin, Write};
 use std::os::fd::AsFd;
 
 const BLOCK: usize = 96;
 const WORD: usize = 24;
-/// Where each symbol of a word stands, from the word's own slot on.
+/// The place of each symbol of a word, from the slot of the word on.
 const PLACES: [usize; WORD] = [
     0, 66, 125, 191, 100, 50, 150, 175, 8, 33, 58, 83, 108, 133, 158, 183, 16, 41, 25, 91, 116, 141, 166, 75,
 ];
 
 type Word = [u8; WORD];
 type Input = BufReader<Stdin>;
-/// Standard output as a file, since `Stdout` looks for line feeds in all that is written and cuts writes there.
+/// Standard output as a file, because `Stdout` searches line feeds in the output and splits writes there.
 type Output = BufWriter<File>;
 
 /// The field of 64 elements, by logarithms.
@@ -27,7 +27,7 @@ struct Field {
     log: [u8; 64],
     /// The four syndromes of a symbol at a place, six bits each.
     sums: [[u32; 64]; WORD],
-    /// The two places, counted from the end, whose powers have a sum and a product; 255 where there are none.
+    /// The two places, counted from the end, whose powers have this sum and this product; 255 if there are none.
     pairs: Vec<[u8; 2]>,
 }
 
@@ -78,7 +78,7 @@ impl Field {
         (0..WORD).fold(0, |sums, i| sums ^ self.sums[i][word[i] as usize])
     }
 
-    /// Corrects at most two wrong symbols; how many there were, if the word is near a codeword.
+    /// Corrects at most two wrong symbols; returns their number if the word is near a codeword.
     fn correct(&self, word: &mut Word) -> Option<usize> {
         let sums = self.sums_of(word);
         if sums == 0 {
@@ -116,11 +116,11 @@ impl Field {
 }
 
 impl Field {
-    /// The codeword that differs from a word at these places alone, at most four, if there is one.
+    /// The codeword that differs from a word only at these places (at most four), if there is one.
     fn fill(&self, word: &Word, places: &[usize]) -> Option<Word> {
         let sums = self.sums_of(word);
         let n = places.len();
-        // A row for each of the n first syndromes: the powers of the places, and the syndrome.
+        // One row for each of the n first syndromes: the powers of the places, and the syndrome.
         let mut rows = [[0u8; 5]; 4];
         for (j, row) in rows.iter_mut().enumerate().take(n) {
             for (k, &place) in places.iter().enumerate() {
@@ -146,8 +146,8 @@ impl Field {
         (self.sums_of(&filled) == 0).then_some(filled)
     }
 
-    /// The codeword on which two readings of a word agree: twice the symbols that both have equally wrong and those in which
-    /// they differ are at most four.
+    /// The codeword on which two readings of a word agree: twice the number of symbols that are equally wrong in both, plus the
+    /// number of symbols in which they differ, is at most four.
     fn agreed(&self, one: &Word, other: &Word) -> Option<Word> {
         let differing: Vec<usize> = (0..WORD).filter(|&i| one[i] != other[i]).collect();
         if differing.len() > 4 {
@@ -174,7 +174,7 @@ impl Field {
     }
 }
 
-/// Reads a block; false at the end of the input.
+/// Reads a block; returns false at the end of the input.
 fn read_block(input: &mut impl Read, block: &mut [u8]) -> io::Result<bool> {
     match input.read_exact(block) {
         Ok(()) => Ok(true),
@@ -186,7 +186,7 @@ fn read_block(input: &mut impl Read, block: &mut [u8]) -> io::Result<bool> {
 /// The symbols of the seven slots before a block and of the block.
 struct Window {
     symbols: [u8; 168 + BLOCK],
-    /// How many slots came before, seven at most, and how many blocks in a row were idle.
+    /// The number of slots before (at most seven), and the number of idle blocks in a row.
     before: usize,
     quiet: usize,
 }
@@ -197,7 +197,7 @@ impl Window {
     }
 
     fn take(&mut self, block: &[u8]) {
-        // Most blocks of a disc are idle: where the slots before are too, so are the words, and nothing has to move.
+        // Most blocks of a disc are idle: if the slots before are idle too, so are the words, and nothing has to move.
         self.quiet = if block.iter().fold(0, |all, it| all | it) & 63 == 0 { self.quiet + 1 } else { 0 };
         if self.quiet > 3 {
             return;
@@ -224,7 +224,7 @@ impl Window {
     }
 }
 
-/// Gives each corrected word of a stream, with the number of wrong symbols.
+/// Passes each corrected word of a stream to a function, with the number of wrong symbols.
 fn for_each_word(
     input: &mut impl Read,
     given: impl FnMut(&Word, Option<usize>) -> io::Result<()>,
@@ -232,7 +232,7 @@ fn for_each_word(
     for_each_word_and_block(input, |_| {}, given)
 }
 
-/// Gives each block, and each corrected word.
+/// Passes each block and each corrected word to a function.
 fn for_each_word_and_block(
     input: &mut impl Read,
     seen: impl FnMut(&[u8]),
@@ -241,7 +241,7 @@ fn for_each_word_and_block(
     words_from(&mut Window::new(), input, seen, given)
 }
 
-/// The same, from a window that has seen some of the stream.
+/// The same, from a window that has read some of the stream.
 fn words_from(
     window: &mut Window,
     input: &mut impl Read,
@@ -265,7 +265,7 @@ fn words_from(
     Ok(())
 }
 
-/// Writes the packs on which two readings agree, zeros where they agree on none.
+/// Writes the packs on which two readings agree, and zeros if they agree on none.
 fn merge(first: &str, second: &str, out: &mut Output) -> io::Result<()> {
     let open = |name| fs::File::open(name).map(|file| BufReader::with_capacity(65_536, file));
     let (field, mut inputs) = (Field::new(), [open(first)?, open(second)?]);
@@ -352,7 +352,7 @@ fn convert(input: &mut Input, out: &mut Output) -> io::Result<()> {
     for_each_word(input, |word, _| out.write_all(word))
 }
 
-/// The check of a Q frame, bytes first to last.
+/// The check of the bytes of a Q frame.
 struct Check([u16; 256]);
 
 impl Check {
@@ -481,7 +481,7 @@ impl Screen {
         }
     }
 
-    /// The number of the colour that is shown at a place.
+    /// The number of the colour at a place of the screen.
     fn shown(&self, x: usize, y: usize) -> u8 {
         let (h, v) = self.offsets;
         let inside = (6..=293).contains(&x) && (12..=203).contains(&y);
@@ -500,7 +500,7 @@ impl Screen {
     }
 }
 
-/// The screen after so many blocks.
+/// The screen after some blocks.
 fn screen_at(input: &mut Input, blocks: usize) -> io::Result<Screen> {
     let mut screen = Screen::new();
     let mut left = (4 * blocks).saturating_sub(7);
@@ -522,7 +522,7 @@ fn state(screen: &Screen, out: &mut Output) -> io::Result<()> {
     Ok(())
 }
 
-/// Writes the packs of a file, zeros in place of those that change nothing.
+/// Writes the packs of a file, with zeros instead of those that change nothing.
 fn thin(input: &mut Input, out: &mut Output) -> io::Result<()> {
     let (mut screen, mut pack) = (Screen::new(), [0; WORD]);
     while read_block(input, &mut pack)? {
@@ -534,10 +534,10 @@ fn thin(input: &mut Input, out: &mut Output) -> io::Result<()> {
     Ok(())
 }
 
-/// Obeys an instruction; whether it changes anything.
+/// Executes an instruction; returns whether it changes anything.
 fn changes(screen: &mut Screen, word: &Word) -> bool {
     let c = &word[4..20];
-    // A tile changes its own pixels alone, and is by far the most common instruction.
+    // A tile changes only its own pixels, and is by far the most common instruction.
     if matches!(word[1], 6 | 38) {
         let (row, column) = ((c[2] & 31) as usize, c[3] as usize);
         if row > 17 || column > 49 {
@@ -553,7 +553,7 @@ fn changes(screen: &mut Screen, word: &Word) -> bool {
     *screen != before
 }
 
-/// The text packs of a lead-in of so many blocks, and how many were good, bad and of another kind.
+/// The text packs of a lead-in, and the numbers of good, bad and other packs.
 fn text(input: &mut Input, out: &mut Output, lead_in: usize) -> io::Result<()> {
     let (check, mut block, mut kept) = (Check::new(), [0; BLOCK], vec![None; 256]);
     let (mut good, mut bad, mut other) = (0, 0, 0);
@@ -629,7 +629,7 @@ fn q(input: &mut Input, out: &mut Output) -> io::Result<()> {
     Ok(())
 }
 
-/// The eight bits of a byte, one in each byte of a number, the highest first in memory.
+/// The eight bits of a byte, one in each byte of a number, the highest bit first in memory.
 fn lanes() -> [u64; 256] {
     std::array::from_fn(|byte| (0..8).fold(0, |lanes, k| lanes | (byte as u64 >> (7 - k) & 1) << (8 * k)))
 }
@@ -683,7 +683,7 @@ impl Random {
     }
 }
 
-/// The bursts of damage of a seed: how many symbols come before the next one, how many it has left, and their change.
+/// The bursts of a seed: the number of symbols before the next burst, the rest of its length, and its change.
 struct Needle {
     random: Random,
     gap: usize,
@@ -754,7 +754,7 @@ fn words_of(line: &[u8]) -> impl Iterator<Item = &[u8]> {
     line.split(|byte| matches!(byte, b' ' | b'\t' | b'\r')).filter(|word| !word.is_empty())
 }
 
-/// The number of one to three digits that a word is, if it is below a limit.
+/// The number in a word of one to three digits, if it is below a limit.
 fn number(word: &[u8], limit: usize) -> Option<usize> {
     if word.is_empty() || word.len() > 3 || !word.iter().all(u8::is_ascii_digit) {
         return None;
@@ -776,14 +776,14 @@ impl Track {
     }
 }
 
-/// Where the tracks of a sheet lie.
+/// The places of the tracks of a sheet.
 struct Layout {
     tracks: Vec<Track>,
     blocks: u32,
 }
 
 impl Layout {
-    /// The layout of a sheet whose tracks have index lines and nothing else.
+    /// The layout of a sheet whose tracks have only index lines.
     fn of(sheet: &[u8], length: u32) -> Option<Layout> {
         let mut tracks: Vec<Track> = Vec::new();
         for line in sheet.split(|&byte| byte == b'\n') {
@@ -833,7 +833,7 @@ impl Layout {
 
 /// The parity of packs.
 struct Parity {
-    /// The remainders of a symbol behind which two and four symbols come, by the polynomials of Q and of P parity.
+    /// The remainders of a symbol that two or four symbols follow, for the polynomials of the Q and P parity.
     q: [u32; 64],
     p: [u32; 64],
 }
@@ -842,7 +842,7 @@ impl Parity {
     fn new() -> Parity {
         let field = Field::new();
         let table = |count: usize| {
-            // The coefficients of the product of (x - 2^k), without the highest, the next one first.
+            // The coefficients of the product of (x - 2^k), without the highest one, in descending order.
             let mut product = vec![1];
             for k in 0..count {
                 product.push(0);
@@ -857,7 +857,7 @@ impl Parity {
         Parity { q: table(2), p: table(4) }
     }
 
-    /// Puts both parities of a pack.
+    /// Writes both parities of a pack.
     fn seal(&self, word: &mut Word) {
         let q = word[..2].iter().fold(0, |rest, &it| (rest & 63) << 6 ^ self.q[(rest >> 6 ^ u32::from(it)) as usize]);
         word[2..4].copy_from_slice(&[6, 0].map(|shift| (q >> shift & 63) as u8));
@@ -868,7 +868,7 @@ impl Parity {
     }
 }
 
-/// Writes the program blocks of a layout, which carry packs, none where they are idle.
+/// Writes the program blocks of a layout, which carry packs; a missing pack is idle.
 fn write_stream(layout: &Layout, mut pack: impl FnMut(u32) -> Option<Word>, out: &mut impl Write) -> io::Result<()> {
     let (check, lanes) = (Check::new(), lanes());
     // The symbols of a block and of the seven slots after it.
@@ -894,7 +894,7 @@ fn write_stream(layout: &Layout, mut pack: impl FnMut(u32) -> Option<Word>, out:
     Ok(())
 }
 
-/// What a line of a script draws.
+/// A line of a script that draws.
 enum Line {
     Colour { number: usize, value: u16 },
     Border { colour: u8 },
@@ -917,7 +917,7 @@ struct Script {
 }
 
 impl Script {
-    /// The script of a text, or the number of the first line that is refused.
+    /// The script of a text, or the number of the first refused line.
     fn parse(text: &[u8]) -> Result<Script, usize> {
         let mut script = Script { lines: Vec::new(), pixels: Vec::new(), shown: Vec::new() };
         for (number, line) in text.split(|&byte| byte == b'\n').enumerate() {
@@ -997,7 +997,7 @@ impl Canvas {
         Canvas { pixels: vec![0; WIDTH * 192], border: 0, colours: [0; 16], drawn: 0 }
     }
 
-    /// Draws the lines up to a place, pixels only from the last line on that fills all.
+    /// Draws the lines up to a place; pixels only from the last line that fills the whole window.
     fn draw(&mut self, script: &Script, to: usize) {
         let lines = &script.lines[self.drawn..to];
         self.drawn = to;
@@ -1035,7 +1035,7 @@ impl Canvas {
         pixels
     }
 
-    /// The tiles that are not those of another canvas.
+    /// The tiles that differ from those of another canvas.
     fn changed(&self, other: &Canvas) -> Vec<usize> {
         let band = 12 * WIDTH;
         (0..16)
@@ -1046,7 +1046,7 @@ impl Canvas {
     }
 }
 
-/// Independent differences from the first pixel, and which of them make each difference.
+/// Independent differences from the first pixel, and for each difference those of which it is the sum.
 struct Basis {
     members: [u8; 4],
     count: usize,
@@ -1083,7 +1083,7 @@ impl Basis {
         self.count.max(1)
     }
 
-    /// The instructions that draw the pixels, or that combine them with what stands.
+    /// The instructions that draw the pixels, or combine them with the old ones.
     fn packs(&self, pixels: &Tile, draws: bool, tile: usize, packs: &mut Vec<Word>) {
         for j in 0..self.weight() {
             let ground = if j == 0 { pixels[0] } else { 0 };
@@ -1102,7 +1102,7 @@ impl Basis {
     }
 }
 
-/// How a tile becomes another one with the fewest instructions: what is drawn or combined, and its basis.
+/// The fewest instructions that turn a tile into another one: whether they draw or combine, and their basis.
 fn shortest(old: &Tile, new: &Tile) -> (Basis, Tile, bool) {
     let drawn = Basis::of(new);
     if drawn.weight() > 1 {
@@ -1123,7 +1123,7 @@ fn instruction(number: u8, content: &[u8]) -> Word {
     word
 }
 
-/// What the tiles of a picture take from a colour: their weight, unless they are that colour.
+/// The cost of the tiles of a picture from one colour: their weight, unless they have this colour.
 struct Weights(Vec<(u32, Option<u8>)>);
 
 impl Weights {
@@ -1136,7 +1136,7 @@ impl Weights {
         self.0[tile] = (Basis::of(pixels).weight() as u32, single);
     }
 
-    /// The first of the colours from which the fewest instructions are needed, and how many.
+    /// The first of the colours that need the fewest instructions, and their number.
     fn best(&self) -> (u8, u32) {
         let (mut whole, mut single) = (0, [0; 16]);
         for &(weight, colour) in &self.0 {
@@ -1193,7 +1193,7 @@ fn change(first: bool, before: &Canvas, now: &Canvas, weights: &mut Weights, par
     settings
 }
 
-/// The changes of a script with the packs at which they begin, or the first picture that is late.
+/// The changes of a script with the packs at which they begin, or the first late picture.
 fn changes_of(script: &Script) -> Result<Vec<(u32, Vec<Word>)>, usize> {
     let (mut before, mut now) = (Canvas::new(), Canvas::new());
     let (mut weights, parity, mut start, mut changes) = (Weights::new(), Parity::new(), 0, Vec::new());

@@ -1,18 +1,22 @@
 #!/usr/bin/env python3
-"""Prints the table of bench/README.md: for each command on inputs of 40 MB the processor time that it takes, in
-milliseconds, beside the physical limit and a plain program, how many times the limit goes into ours and ours into the plain
-program's, and the most memory that was held. The limit is what `cat` takes to bring as many bytes in and out: half of its
-time for each byte that is read, and half for each that is written. Each time is user and system time of the process alone,
-the least of RUNS runs (nine, or what the environment says), in turn with the others of its row, through the same pipes. The plain program is bench/reference.rs,
-unverified Rust that does the work of some commands; it is built where rustc is there, and what it writes is compared with
-what we write.
+"""Prints the table of bench/README.md, for each command on inputs of 40 MB: the processor time in milliseconds, of our
+program, of `cat` (the physical limit) and of a plain program; our time divided by the limit, and the plain program's
+time divided by ours; and the peak of the memory. The limit is the time of `cat` for the same number of bytes: half of
+its time per byte for each byte that is read, and half for each that is written. Each time is the user and system time
+of one process, the minimum of RUNS runs (nine, or the environment variable), which alternate with the other runs of the
+row and use the same pipes. The plain program is bench/reference.rs, unverified Rust that does the work of some
+commands. It is built if rustc is there, and its output is compared with ours.
 
-What a time is bound by: `convert`, `check`, `screen`, `state`, `save` and `resume` by the words, four a block, each a
-gathering of 24 symbols and a look at its sums (on an authored stream nearly all blocks are idle); with a wrong symbol in each
-block by the correction; `merge` by two such streams; `q` by the check and the text of a line a block; `planar` and `raw` by
-the bits; `scratch` by the copy; `author`, `press` and `trial` by the writer of blocks, `author` also by the plans of the
-pictures; `thin` by the drawing. Long scripts come last: 20,000 `show` lines without a change, bound by the comparison of each
-picture with the one before, and 64 MiB of `fill` lines, by the grammar.
+What bounds the time of each command:
+
+- `convert`, `check`, `screen`, `state`, `save`, `resume`: the words, four per block. Each is gathered from 24 symbols,
+  and its sums are tested (in an authored stream nearly all blocks are idle). With a wrong symbol in each block, the
+  correction.
+- `merge`: the words of two streams. `q`: the check and the text of one line per block. `planar`, `raw`: the bits.
+- `scratch`: the copy. `thin`: the drawing.
+- `author`, `press`, `trial`: the writer of blocks, and for `author` also the plans of the pictures.
+- Long scripts: for 20,000 `show` lines without a change, the comparison of each picture with the previous one; for
+  64 MiB of `fill` lines, the grammar.
 """
 from __future__ import annotations
 
@@ -38,7 +42,7 @@ PLAIN = (
 
 
 class Run(NamedTuple):
-    """What a run took of the processor, in seconds, how many bytes came out, and its status."""
+    """The processor time of a run in seconds, the number of bytes that it wrote, and its status."""
 
     seconds: float
     written: int
@@ -46,12 +50,12 @@ class Run(NamedTuple):
 
 
 def named(files: Sequence[str]) -> list[str]:
-    """The words that name files, where they are more than one; a single one is standard input."""
+    """The words that name files, if there are several; a single file is standard input."""
     return ["--", *files] if len(files) > 1 else []
 
 
 def through_pipes(words: list[str], files: Sequence[str]) -> Run:
-    """Runs a command from a pipe to a pipe; with two files it reads them by name."""
+    """Runs a command from a pipe to a pipe; it reads two files by name."""
     feed = None
     if len(files) < 2:
         feed = subprocess.Popen(["cat", files[0] if files else os.devnull], stdout=subprocess.PIPE)
@@ -70,7 +74,7 @@ def through_pipes(words: list[str], files: Sequence[str]) -> Run:
 
 
 def peak(words: list[str], files: Sequence[str]) -> int:
-    """The most memory, in KB, that a run of a command held, as far as looks at it every millisecond tell."""
+    """The peak of the memory of a run in KB, measured every millisecond."""
     most = 0
     with open(files[0] if files else os.devnull) as given:
         work = subprocess.Popen([*words, *named(files)], stdin=given, stdout=subprocess.DEVNULL,
@@ -88,13 +92,13 @@ def peak(words: list[str], files: Sequence[str]) -> int:
 
 
 def best(runs: Sequence[tuple[list[str], Sequence[str]]]) -> list[float]:
-    """The least time of each of these runs, which are made in turn, so that a busy moment meets all of them."""
+    """The minimum time of each of these runs, which alternate, so that other load affects all of them."""
     times = [[through_pipes(words, files).seconds for words, files in runs] for _ in range(RUNS)]
     return [min(column) for column in zip(*times)]
 
 
 def reference(work: Path) -> str | None:
-    """The plain program, where it can be built."""
+    """The plain program, if it can be built."""
     made = work / "reference"
     how = ["rustc", "-O", "--edition", "2021", "-o", str(made), str(TOP / "bench" / "reference.rs")]
     if shutil.which("rustc") is None or subprocess.run(how, check=False).returncode:
@@ -103,7 +107,7 @@ def reference(work: Path) -> str | None:
 
 
 def plain_words(program: str | None, words: str) -> list[str] | None:
-    """What asks the plain program for the work of a command, where it can do it."""
+    """The words with which the plain program does the work of a command, if it can."""
     command, *options = words.split()
     if program is None or command not in PLAIN:
         return None
@@ -115,7 +119,7 @@ def plain_words(program: str | None, words: str) -> list[str] | None:
 
 
 def written(words: list[str], files: Sequence[str]) -> str:
-    """A digest of what a run writes."""
+    """A digest of the output of a run."""
     with open(files[0] if files else os.devnull) as given:
         ran = subprocess.run([*words, *named(files)], stdin=given, stdout=subprocess.PIPE, stderr=subprocess.DEVNULL)
     return hashlib.sha256(ran.stdout).hexdigest()
@@ -174,11 +178,11 @@ def told_time(block: int) -> str:
     return f"{block // 4500:02}:{block // 75 % 60:02}:{block % 75:02}"
 
 
-# What `cat` copies, for the limit.
+# The bytes that `cat` copies to measure the limit.
 COPIED = 96 * BLOCKS
 CLEAN = 24 * (4 * BLOCKS - 7)
 AUTHORED = 96 * 400_170
-# What is run, the names of its inputs, what they are, and how many bytes have to come out (where that is known).
+# The commands, the names of their inputs, a description, and the size of the output if it is known.
 ROWS: list[tuple[str, list[str], str, int | None]] = [
     ("convert --lead-in 0", ["clean"], "clean", CLEAN),
     ("convert --lead-in 0", ["damaged"], "a wrong symbol in each block", CLEAN),
@@ -212,7 +216,7 @@ def milliseconds(seconds: float | None) -> str:
 
 
 def plain_run(program: str | None, words: str, given: Sequence[str]) -> list[str] | None:
-    """The plain program's words, where it does the work; it has to write the same."""
+    """The words of the plain program, if it does this work; its output must be the same."""
     other = plain_words(program, words)
     if other is not None and written(other, given) != written(ribjasper(words), given):
         raise ValueError("the plain program writes something else")
@@ -220,12 +224,12 @@ def plain_run(program: str | None, words: str, given: Sequence[str]) -> list[str
 
 
 def limit(copied: float, given: Sequence[str], out: int) -> float:
-    """What it takes to bring these bytes in and out, where to copy COPIED bytes takes so long."""
+    """The time to read and write these bytes, if copying COPIED bytes takes `copied`."""
     return copied * (sum(os.path.getsize(it) for it in given) + out) / (2 * COPIED)
 
 
 def row(program: str | None, what: str, words: str, given: Sequence[str], size: int | None, copy: str) -> str:
-    """A line of the table, once the command is seen to write what it should."""
+    """A line of the table, after the output of the command was checked."""
     ran = through_pipes(ribjasper(words), given)
     if ran.status > 1 or ran.written == 0 or (size is not None and ran.written != size):
         raise ValueError(f"wrote {ran.written} bytes with status {ran.status}")

@@ -1,9 +1,9 @@
 #!/usr/bin/env python3
-"""A tour of each command on one disc. The stream of a cue sheet and a picture script is authored, and its
-texts, its pictures and its packs are got back from it, also from scratched readings. The files are left in
-demo/, or in the folder that is named.
+"""A tour of all commands on one disc. It authors the stream of a cue sheet and a picture script, and reads its texts,
+its pictures and its packs back from it, also from scratched readings. The files remain in demo/, or in the folder that
+is named.
 
-It runs bin/ribjasper. Where that is not built yet, it compiles the program unproved, once for all calls."""
+The tour runs bin/ribjasper. If this is not built yet, it compiles the program unproved, once for all calls."""
 from __future__ import annotations
 
 import argparse
@@ -19,14 +19,14 @@ from typing import Callable, Iterable, NamedTuple
 from pictures import as_png, as_text, is_shown_by
 
 TOP = Path(__file__).resolve().parent.parent
-# What make built, or else what the gate left.
+# The program that `make` built, or else the one of the gate.
 PROGRAMS = [TOP / "bin" / "ribjasper", TOP / "crates" / "ribjasper" / "out" / "ribjasper"]
-# The lengths of what the files of each kind are made of.
+# The sizes of the units in the files of each kind.
 UNITS = {".raw": 96, ".sub": 96, ".cdg": 24, ".ppm": 15 + 3 * 300 * 216, ".save": 65_045}
 
 
 class Call(NamedTuple):
-    """A call of the program: its words, the files of demo/ that it reads and the one that it writes."""
+    """A call of the program: its words, the files of demo/ that it reads, and the file that it writes."""
 
     output: str
     words: str
@@ -39,7 +39,7 @@ class Call(NamedTuple):
 
 
 class Built:
-    """The program, which is built."""
+    """The program, already built."""
 
     def __init__(self, program: Path) -> None:
         print(f"This is {program.relative_to(TOP)}.")
@@ -57,9 +57,9 @@ class Built:
 
 
 class Tried:
-    """The program as one `rt try` compiles it: it runs the calls one after the other, each as a case.
+    """The program as one `rt try` compiles it: it runs the calls one after another, each as a case.
 
-    A call waits for its inputs at pipes, so that they may come of the calls before it."""
+    A call waits for its inputs at pipes, so earlier calls can write them."""
 
     def __init__(self, calls: list[Call]) -> None:
         if not shutil.which("rt"):
@@ -111,7 +111,7 @@ class Tried:
             to.write(content)
 
     def keep(self, call: Call) -> None:
-        """Writes what the call printed, without the line feed that `rt try` adds to it."""
+        """Writes the output of the call to its file, without the line feed that `rt try` adds."""
         printed = Path(self.output.name).read_bytes()
         content = printed[self.said :].partition(f"== {self.name_of(self.count)}\n".encode())[2]
         self.count, self.said = self.count + 1, len(printed)
@@ -124,7 +124,7 @@ class Tried:
 
 
 def read(name: str) -> bytes:
-    """A file of demo/, which is the working folder."""
+    """The bytes of a file in demo/, which is the working folder."""
     return Path(name).read_bytes()
 
 
@@ -137,7 +137,7 @@ def tell(rows: Iterable[str]) -> None:
 
 
 def must(is_so: bool, what: str) -> None:
-    """Says what is so, or ends the tour."""
+    """Prints a fact, or ends the tour if it is false."""
     if not is_so:
         sys.exit(f"   It is not so: {what}")
     tell([what])
@@ -155,7 +155,7 @@ def show_screen() -> None:
 
 
 def with_hole(content: bytes, start: int) -> bytes:
-    """A reading in which 25 bytes in a row are destroyed."""
+    """A reading with 25 destroyed bytes in a row."""
     return content[:start] + b"\x15" * 25 + content[start + 25 :]
 
 
@@ -177,7 +177,7 @@ def show_card() -> None:
     tell(lines("card.txt")[:4])
 
 
-# The files that no call makes, each by what it is made of.
+# The files that no call writes, with the functions that make them.
 MADE: dict[str, Callable[[], bytes]] = {
     "hello.cue": lambda: (TOP / "examples" / "hello.cue").read_bytes(),
     "hello.script": lambda: (TOP / "examples" / "hello.script").read_bytes(),
@@ -192,7 +192,7 @@ MADE: dict[str, Callable[[], bytes]] = {
 
 
 class Step(NamedTuple):
-    """A stop of the tour: its calls, and what shows what they wrote."""
+    """A stop of the tour: its calls, and a function that shows their outputs."""
 
     title: str
     calls: list[Call]

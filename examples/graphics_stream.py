@@ -94,7 +94,7 @@ def letter(name: str, colours: tuple[int, int], row: int, column: int) -> list[P
 
 LOW = [0x000, 0xF00, 0x00F, 0xFF0, 0x0F0, 0x0FF, 0xF0F, 0xFFF]
 HIGH = [0x888, 0x800, 0x080, 0x008, 0x880, 0x088, 0x808, 0x444]
-# Of transparency, which players keep and do not show.
+# The transparency levels, which players keep and do not show.
 LEVELS = [0] + list(range(48, 63))
 
 
@@ -107,7 +107,7 @@ def state() -> list[str]:
 
 
 def scene() -> list[Pack]:
-    """The packs, a border as the memory's own colour, so that players that paint it into the memory agree."""
+    """The packs; the border has the colour of the memory, so players that draw the border into the memory agree."""
     packs = [memory_preset(2), border_preset(2)]
     packs.append(colours(30, LOW))
     packs.append(colours(31, HIGH))
@@ -134,7 +134,7 @@ for one, other in ((1, 18), (2, 5), (3, 23)):
 
 
 def spread(packs: list[Pack]) -> bytes:
-    """The program symbols that carry the packs: whole blocks, zeros at the places of no pack."""
+    """The program symbols that carry the packs: whole blocks, with zeros at places without a pack."""
     slots = -(-(len(packs) + 7) // 4) * 4
     symbols = bytearray(24 * slots)
     for n, word in enumerate(packs):

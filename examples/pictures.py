@@ -1,4 +1,4 @@
-"""Pixmaps of 300 by 216 pixels, as `ribjasper screen` writes them: shown in a terminal, and as PNG files."""
+"""Pixmaps of 300 by 216 pixels, as `ribjasper screen` writes them, shown in a terminal or written as PNG files."""
 import os
 import struct
 import sys
@@ -10,7 +10,7 @@ Pixel = tuple[int, int, int]
 
 WIDTH, HEIGHT = 300, 216
 HEADER = b"P6\n300 216\n255\n"
-# A picture of twice the size.
+# A picture at twice the size.
 SCALE = 2
 
 
@@ -22,7 +22,7 @@ def rows_of(pixmap: bytes) -> list[list[Pixel]]:
 
 
 def code_of(pixel: Pixel) -> str:
-    """A colour as a terminal takes it, after its 38 or 48."""
+    """A colour as a terminal expects it after its code 38 or 48."""
     if os.environ.get("COLORTERM") in ("truecolor", "24bit"):
         return "2;{};{};{}".format(*pixel)
     red, green, blue = (round(part / 51) for part in pixel)
@@ -30,7 +30,7 @@ def code_of(pixel: Pixel) -> str:
 
 
 def coloured(rows: list[list[Pixel]]) -> Iterator[str]:
-    """Lines of half blocks, 75 in a line, each of four by eight pixels."""
+    """Lines of 75 half blocks, each for four by eight pixels."""
     for y in range(0, HEIGHT, 8):
         above, below = rows[y + 2], rows[y + 6]
         cells = (f"\033[38;{code_of(above[x])};48;{code_of(below[x])}m▀" for x in range(2, WIDTH, 4))
@@ -38,20 +38,20 @@ def coloured(rows: list[list[Pixel]]) -> Iterator[str]:
 
 
 def grey(rows: list[list[Pixel]]) -> Iterator[str]:
-    """Lines of a character for each six by twelve pixels."""
+    """Lines with one character for each six by twelve pixels."""
     for y in range(6, HEIGHT, 12):
         light = ((3 * red + 6 * green + blue) / 2551 for red, green, blue in rows[y][3::6])
         yield f"    |{''.join(' .:+#'[int(5 * part)] for part in light)}|"
 
 
 def as_text(pixmap: bytes) -> str:
-    """A picture for the terminal, or in plain characters where the output is none."""
+    """A picture for a terminal, or in plain characters if the output is no terminal."""
     is_terminal = sys.stdout.isatty() and os.environ.get("TERM", "dumb") != "dumb"
     return "\n".join((coloured if is_terminal else grey)(rows_of(pixmap)))
 
 
 def scan_lines(pixmap: bytes) -> bytes:
-    """The bytes of a PNG file's picture, before they are packed."""
+    """The bytes of the pixels in a PNG file, before compression."""
     lines = []
     for row in rows_of(pixmap):
         lines += SCALE * [b"\0" + b"".join(SCALE * bytes(pixel) for pixel in row)]

@@ -4,8 +4,8 @@
                              writes the screen to the file BLOCKS.ppm
    player -p PACKS.. <file   draws a .cdg file pack by pack, in the same way
    player <stream            feeds a raw stream, and after each second writes the screen to the file SECONDS.ppm
-   player -m <stream         feeds it again and again, and tells how many blocks a second the player takes, and how long it
-                             takes to look at the screen */
+   player -m <stream         feeds it again and again, and prints how many blocks per second the player processes, and how
+                             long it takes to read the screen */
 #include "ribjasper.h"
 
 #include <stdio.h>
@@ -41,7 +41,7 @@ static int write_screen(const ribjasper_player *player, long number)
     return fclose(file) != 0 || !written;
 }
 
-/* Feeds the next block or draws the next pack of the input: 1, 0 at its end, or -1. */
+/* Feeds the next block or draws the next pack of the input; returns 1, or 0 at its end, or -1. */
 static int step(ribjasper_player *player, int packs)
 {
     uint8_t unit[RIBJASPER_BLOCK];
@@ -88,7 +88,7 @@ static double seconds_since(clock_t start)
     return (double)(clock() - start) / CLOCKS_PER_SEC;
 }
 
-/* A picture as a plain loop makes it: three bytes for each pixel, from a table of sixteen colours. */
+/* A picture made by a plain loop: three bytes for each pixel, from a table of sixteen colours. */
 static void plain_picture(const uint8_t *pixels, const uint16_t *colours, uint8_t *picture)
 {
     uint8_t table[RIBJASPER_COLOURS][3];
@@ -102,7 +102,7 @@ static void plain_picture(const uint8_t *pixels, const uint16_t *colours, uint8_
         memcpy(picture + 3 * i, table[pixels[i]], 3);
 }
 
-/* Looks at the screen LOOKS times, as a picture, as the numbers of its pixels, and as the plain loop does of these. */
+/* Reads the screen LOOKS times: as a picture, as colour numbers, and as the picture that the plain loop makes of these. */
 static int measure_looks(const ribjasper_player *player)
 {
     static uint8_t picture[RIBJASPER_PICTURE], plain[RIBJASPER_PICTURE], pixels[RIBJASPER_PIXELS];

@@ -1,8 +1,8 @@
-/* A player in C++ on the library: a class that owns a player, a picture of which only what changed is drawn anew, and
-   seeking, back and forth, from checkpoints in memory.
+/* A player in C++ on the library: a class that owns a player, a picture in which only the changes are drawn, and seeking in
+   both directions, from checkpoints in memory.
 
-   player BLOCKS.. <stream   goes to each of these numbers of blocks of a raw stream, in the order in which they are given,
-                             and writes what stands there to the file BLOCKS.ppm */
+   player BLOCKS.. <stream   seeks to each of these numbers of blocks of a raw stream, in the given order, and writes the
+                             screen there to the file BLOCKS.ppm */
 #include "ribjasper.h"
 
 #include <algorithm>
@@ -17,7 +17,7 @@
 #include <string>
 #include <vector>
 
-/* A player that is open as long as it lives. It may be moved, and copied by the library alone. */
+/* An open player, which its destructor closes. It can be moved; a function of the library copies it. */
 class Player {
 public:
     Player()
@@ -42,7 +42,7 @@ public:
         return change;
     }
 
-    /* Writes a part of the screen, as red, green and blue, into a picture of the whole. */
+    /* Writes a part of the screen, as red, green and blue, into a picture of the whole screen. */
     void draw(const ribjasper_change &part, std::vector<uint8_t> &picture) const
     {
         size_t place = 3 * (RIBJASPER_WIDTH * static_cast<size_t>(part.top) + part.left);
@@ -77,7 +77,7 @@ private:
     ribjasper_player player = RIBJASPER_CLOSED;
 };
 
-/* A stream that is played, with the picture that stands and what it takes to go back. */
+/* A stream that is played, with the current picture and the checkpoints for seeking back. */
 class Show {
 public:
     explicit Show(std::vector<uint8_t> bytes) : stream(std::move(bytes)), picture(RIBJASPER_PICTURE)
@@ -90,7 +90,7 @@ public:
         return stream.size() / RIBJASPER_BLOCK;
     }
 
-    /* Goes to a moment: on from here, or from the last checkpoint before it. */
+    /* Seeks to a block: from here, or from the last checkpoint before it. */
     const std::vector<uint8_t> &at(size_t moment)
     {
         auto before = std::prev(checkpoints.upper_bound(moment));
@@ -105,7 +105,7 @@ public:
     }
 
 private:
-    /* Feeds some blocks, draws what changed, and keeps a checkpoint every ten seconds. */
+    /* Feeds some blocks, draws the changes, and stores a checkpoint every ten seconds. */
     void step(size_t count)
     {
         ribjasper_change change = player.feed(stream.data() + RIBJASPER_BLOCK * now, count);

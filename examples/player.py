@@ -14,13 +14,13 @@ BLOCK, WIDTH, HEIGHT, RGB, ANSWER_TEXT = 96, 300, 216, 1, 64
 
 
 class Handle(ctypes.Structure):
-    """What C keeps of a player: all zeros it is closed."""
+    """The C struct of a player; a struct of zeros is closed."""
 
     _fields_ = [("at", ctypes.c_void_p), ("is_open", ctypes.c_bool)]
 
 
 class Change(ctypes.Structure):
-    """What of the screen may have changed."""
+    """The rectangle of the screen that may have changed."""
 
     _fields_ = [(name, ctypes.c_uint32) for name in ("left", "top", "right", "bottom")] + [
         ("colours", ctypes.c_uint8), ("levels", ctypes.c_uint8)]
@@ -32,7 +32,7 @@ def library() -> ctypes.CDLL:
 
 
 class Player:
-    """A player that is open from `with` on to its end."""
+    """A player that is open inside its `with` block."""
 
     def __init__(self) -> None:
         self.calls, self.handle = library(), Handle()
@@ -51,7 +51,7 @@ class Player:
             raise RuntimeError(text.value.decode())
 
     def feed(self, blocks: bytes) -> Change:
-        """Feeds whole blocks, all in one call, and returns what of the screen may have changed."""
+        """Feeds whole blocks in one call, and returns the rectangle that may have changed."""
         change, count = Change(), ctypes.c_size_t(len(blocks) // BLOCK)
         self.check(self.calls.ribjasper_player_feed_all(ctypes.byref(self.handle), blocks, count, ctypes.byref(change)))
         return change

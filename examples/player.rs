@@ -15,14 +15,14 @@ const WIDTH: usize = 300;
 const HEIGHT: usize = 216;
 const RGB: u32 = 1;
 
-/// What C keeps of a player: all zero it is closed.
+/// The C struct of a player; a struct of zeros is closed.
 #[repr(C)]
 struct Handle {
     at: *mut c_void,
     is_open: bool,
 }
 
-/// What of the screen may have changed.
+/// The rectangle of the screen that may have changed.
 #[repr(C)]
 #[derive(Default)]
 struct Change {
@@ -57,7 +57,7 @@ extern "C" {
     fn ribjasper_answer_text(answer: i32, text: *mut [c_char; 64]);
 }
 
-/// A player that is open as long as it lives.
+/// An open player, which is closed when it is dropped.
 struct Player(Handle);
 
 impl Player {
@@ -70,7 +70,7 @@ impl Player {
         Ok(Player(handle))
     }
 
-    /// Feeds blocks, all in one call.
+    /// Feeds some blocks in one call.
     fn feed(&mut self, blocks: &[[u8; BLOCK]]) -> Result<Change, Box<dyn Error>> {
         let mut change = Change::default();
         let count = blocks.len();
@@ -80,8 +80,8 @@ impl Player {
         Ok(change)
     }
 
-    /// Writes red, green and blue of the pixels that changed into a picture of the whole. The call takes the player out of
-    /// its handle while it looks, so it wants the only reference.
+    /// Writes red, green and blue of the changed pixels into a picture of the whole screen. The call takes the player out of
+    /// its handle while it reads it, so it needs an exclusive reference.
     fn draw(&mut self, change: &Change, picture: &mut [u8]) -> Result<(), Box<dyn Error>> {
         let (left, top, right, bottom) = if change.colours == 1 {
             (0, 0, WIDTH as u32, HEIGHT as u32)
@@ -116,7 +116,7 @@ impl Drop for Player {
     }
 }
 
-/// An answer of the library, in words where it is a refusal.
+/// An answer of the library; an error in words.
 fn check(answer: i32) -> Result<(), Box<dyn Error>> {
     if answer == 0 {
         return Ok(());

@@ -46,7 +46,7 @@ const BLOCKS_BEFORE = 2;
 const COLOURS = 16;
 // A place and a player. A mark of zeros is not set.
 const MARK_BYTES = 8 + PLAYER_BYTES;
-// What `touches` answers for a pack that touches no tile, from 900 on.
+// The answer of `touches` for a pack that touches no tile, from 900 on.
 const TOUCHED = ["nothing", "all", "border", "colours", "levels"];
 const FIRST_TOUCHED = 900;
 const TILES_A_ROW = 50;
@@ -91,7 +91,7 @@ async function bytesOfAnswer(answer, place) {
     return answer.arrayBuffer();
 }
 
-/** The memory of the module. Rooms are runs of whole pages; a room that was given back is used again, in part if it is larger. */
+/** The memory of the module. Buffers are runs of whole pages; a freed buffer is used again, in part if it is larger. */
 class Room {
     #memory;
     #calls;
@@ -106,7 +106,7 @@ class Room {
         this.#end = this.#memory.buffer.byteLength;
     }
 
-    /** All bytes. Growing the memory detaches the array, so it is asked for each time. */
+    /** All bytes. Growing the memory detaches the array, so it is requested each time. */
     get bytes() {
         if (this.#bytes === undefined || this.#bytes.byteLength !== this.#memory.buffer.byteLength) {
             this.#bytes = new Uint8Array(this.#memory.buffer);
@@ -114,7 +114,7 @@ class Room {
         return this.#bytes;
     }
 
-    /** Takes the smallest free room that is large enough, or grows the memory. Its bytes may be those of the last user. */
+    /** Allocates the smallest free buffer that is large enough, or grows the memory. It may contain bytes of its last user. */
     take(size) {
         const pages = Math.max(1, Math.ceil(size / PAGE_BYTES));
         let best = -1;
@@ -137,7 +137,7 @@ class Room {
     }
 
     #grown(pages) {
-        // A free room at the end is used first.
+        // A free buffer at the end is used first.
         const last = this.#free.at(-1);
         const atTheEnd = last !== undefined && last.at + last.pages * PAGE_BYTES === this.#end;
         const at = atTheEnd ? last.at : this.#end;
@@ -145,7 +145,7 @@ class Room {
         try {
             this.#memory.grow(BigInt(more));
         } catch (error) {
-            // Engines of before 2024, and memories with 32-bit addresses, take a number.
+            // Engines before 2024, and memories with 32-bit addresses, take a number.
             if (!(error instanceof TypeError)) {
                 throw error;
             }
@@ -158,7 +158,7 @@ class Room {
         return { at, pages };
     }
 
-    /** Gives a room back, and joins it with its free neighbours. */
+    /** Frees a buffer, and joins it with its free neighbours. */
     give(room) {
         const behind = this.#free.findIndex((it) => it.at > room.at);
         this.#free.splice(behind < 0 ? this.#free.length : behind, 0, room);
@@ -182,7 +182,7 @@ class Room {
         return this.#calls[`ribjasper_web_${name}`](...values);
     }
 
-    /** Writes bytes to a place, and gives its address. */
+    /** Writes bytes to a place, and returns its address. */
     put(at, bytes) {
         this.bytes.set(bytes, at);
         return BigInt(at);
@@ -192,7 +192,7 @@ class Room {
         return new DataView(this.#memory.buffer, at);
     }
 
-    /** Four-byte numbers from a place that four divides. */
+    /** Four-byte numbers from an address that is a multiple of four. */
     words(at, count) {
         return new Uint32Array(this.#memory.buffer, at, count);
     }
@@ -209,7 +209,7 @@ class Room {
     }
 }
 
-// What the classes below do for each other: the packs of units, and calls that read a stream in the module's memory.
+// Shared by the classes below: the packs of units, and calls that read a stream in the module's memory.
 let packsTaken;
 let callOn;
 
@@ -226,14 +226,14 @@ export class Ribjasper {
         this.#room = new Room(exports);
         this.#shared = {
             room: this.#room,
-            // A picture, a checkpoint's file or a few blocks.
+            // A buffer for a picture, the file of a checkpoint, or a few blocks.
             work: this.#room.take(8 * PAGE_BYTES).at,
             chunk: this.#room.take(CHUNK_BYTES).at,
             turned: this.#room.take(CHUNK_BYTES).at,
         };
     }
 
-    /** How many bytes of memory the module has now. It never shrinks; what is closed is used again. */
+    /** The size of the module's memory in bytes. It never shrinks; memory of closed objects is used again. */
     get memoryBytes() {
         return this.#room.bytes.length;
     }
@@ -320,7 +320,7 @@ export class Ribjasper {
     }
 
     #rows(bytes, form, leadIn, blocks) {
-        // Rows begin at a place that four divides.
+        // Rows begin at an address that is a multiple of four.
         const before = 4 * Math.ceil(bytes.length / 4);
         const room = this.#room.take(before + ROW_BYTES * blocks);
         try {
@@ -357,7 +357,7 @@ export class Ribjasper {
         }
         const blocks = Math.max(0, Math.floor(size / BLOCK_BYTES) - leadIn);
         const words = Math.max(0, 4 * blocks - 7);
-        // The tallies begin at a place that four divides.
+        // The tallies begin at an address that is a multiple of four.
         const bytes = size * lists.length;
         const room = this.#room.take(TALLY_BYTES + bytes + PACK_BYTES * words + words);
         try {
@@ -475,7 +475,7 @@ export class Player {
         this.#room = shared.room;
         this.#work = shared.work;
         this.#place = this.#room.take(PLAYER_BYTES);
-        // All zeros are a player; what the last user of the room left may be none.
+        // A player of all zeros is valid; bytes of the last user may not be.
         this.#room.bytes.fill(0, this.#place.at, this.#place.at + PLAYER_BYTES);
         this.#begin(begin);
     }
@@ -518,7 +518,7 @@ export class Player {
                 fed += Number(this.#room.call("feed_all", at, FORMS.get(form), place, BigInt(piece.length)));
                 continue;
             }
-            // The same, and faster; what may have changed is not used.
+            // The same, and faster; the reported change is not used.
             this.#room.call("feed_changes", at, place, BigInt(piece.length / BLOCK_BYTES), BigInt(this.#work));
             fed += piece.length / BLOCK_BYTES;
         }
@@ -591,7 +591,7 @@ export class Player {
         });
     }
 
-    /** Reads units and writes their packs to a place of the module's memory. Says how many packs they are. */
+    /** Reads units and writes their packs to a place of the module's memory. Returns the number of packs. */
     #takeAll(units, form, to) {
         const unit = unitOf(form);
         const [at, chunk] = [this.#at, this.#put(units, form) + unit - BLOCK_BYTES];
@@ -683,7 +683,7 @@ export class Player {
         return { x: left, y: top, width: right - left + 1, height: bottom - top + 1 };
     }
 
-    /** Writes the picture into the module's memory, and gives a view of it that the next call may spoil. */
+    /** Writes the picture into the module's memory, and returns a view of it that the next call may overwrite. */
     #pixels(options) {
         const { levels, clear } = pictureOptions(options);
         const at = this.#at;
@@ -799,7 +799,7 @@ export class Seeker {
     // The blocks or packs from one mark to the next, and the number of marks.
     #every;
     #count;
-    // The rooms of the blocks or packs and of the marks, until they are given back.
+    // The buffers of the blocks or packs and of the marks, until they are freed.
     #units = null;
     #marks = null;
     #position = 0;
@@ -826,7 +826,7 @@ export class Seeker {
             throw error;
         }
         putUnits(shared, bytes, form, this.#length, this.#units.at);
-        // All zeros are marks that are not set.
+        // Marks of all zeros are not set.
         shared.room.bytes.fill(0, this.#marks.at, this.#marks.at + MARK_BYTES * this.#count);
     }
 
@@ -860,7 +860,7 @@ export class Seeker {
         this.#position = to;
     }
 
-    /** No mark lies between here and there, so the player reads on. */
+    /** There is no mark between here and there, so the player reads on. */
     #goOn(to) {
         const at = BigInt(this.#units.at + this.#unit * this.#position);
         const count = to - this.#position;
@@ -1007,7 +1007,7 @@ function around(one, other) {
     };
 }
 
-/** The raw blocks of planar ones, at most a chunk, as a view that the next call may spoil. */
+/** The raw blocks of planar ones, at most a chunk, as a view that the next call may overwrite. */
 function turned({ room, chunk, turned: to }, planar) {
     room.put(chunk, planar);
     room.fromPlanar(chunk, to, planar.length / BLOCK_BYTES);
@@ -1047,7 +1047,7 @@ function exactly(name, value, count) {
     return bytes;
 }
 
-/** A whole number from 0 up to the most. */
+/** A whole number from 0 to a maximum. */
 function numberOf(name, value, most) {
     if (typeof value !== "number") {
         throw new TypeError(`${name}: a number is wanted, not ${kindOf(value)}`);
@@ -1103,7 +1103,7 @@ function seekerOptions(options) {
     return { form, leadIn, unit: form === "cdg" ? PACK_BYTES : unitOf(form) };
 }
 
-/** The distance of marks: ten seconds of blocks, or more, so that they are not too many. */
+/** The distance of marks: ten seconds of blocks, or more, so that there are not too many. */
 function everyOf({ form = "raw", marks = 128 }, length) {
     const most = numberOf("marks", marks, 1_000_000);
     const least = 10 * (form === "cdg" ? PACKS_A_SECOND : BLOCKS_A_SECOND);

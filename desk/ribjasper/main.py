@@ -20,7 +20,7 @@ from .common.library import version
 ARCHIVE = ("identify", "damage", "mend", "q-fix", "convert", "sums", "report", "sheet", "texts")
 PUBLISH = ("plan", "picture", "lyrics", "image", "film", "album", "pair", "look", "studio")
 COMMANDS = (*ARCHIVE, *PUBLISH)
-# Modules that are not called as their commands.
+# Modules whose names differ from their commands.
 MODULES = {"q-fix": "q_fix", "sheet": "sheets"}
 
 
@@ -41,7 +41,7 @@ class Version(argparse.Action):
 
 
 class Parser(argparse.ArgumentParser):
-    """A parser that takes options only as they are spelled, and whose help reports a full standard output."""
+    """A parser that accepts no abbreviated options, and whose help reports a full standard output."""
 
     def __init__(self, *words: Any, **options: Any) -> None:
         options.setdefault("allow_abbrev", False)
@@ -64,7 +64,7 @@ def module_of(command: str) -> Any:
 
 @functools.lru_cache(maxsize=None)
 def parser(command: str | None = None) -> argparse.ArgumentParser:
-    """The parser of all commands, or, which is there sooner, that of one of them."""
+    """The parser of all commands, or, to start faster, that of one command."""
     top = Parser(
         prog="ribjasper-desk",
         description="Works on dumps of Compact Discs and on songs with graphics, with the proved library.",
@@ -102,7 +102,7 @@ def _stop(number: int, _: FrameType | None) -> NoReturn:
 
 @contextlib.contextmanager
 def stopping() -> Iterator[None]:
-    """Requests to end are taken as an exception, but for those that whoever started the desk wants ignored (nohup)."""
+    """Turns signals that end the process into an exception, except those that the caller ignores (nohup)."""
     before = {number: signal.getsignal(number) for number in beside.STOPS}
     for number, handler in before.items():
         if handler is not signal.SIG_IGN:
@@ -115,8 +115,8 @@ def stopping() -> Iterator[None]:
 
 
 def open_streams() -> None:
-    """Standard streams that are closed are opened on nothing, so that no file of the call takes their place; what is
-    then written to standard output fails."""
+    """Opens closed standard streams on the null device, so that no file of the call gets their numbers; writing to a
+    closed standard output then fails."""
     for number, how in ((0, os.O_RDONLY), (1, os.O_RDONLY), (2, os.O_WRONLY)):
         try:
             os.fstat(number)
@@ -128,7 +128,7 @@ def open_streams() -> None:
 
 
 def let_go_of_output() -> None:
-    """What waits for a standard output that takes no more is not written again at the end."""
+    """Discards the bytes for a standard output that failed, so that they are not written again at the end."""
     with contextlib.suppress(OSError, ValueError):
         nothing = os.open(os.devnull, os.O_WRONLY)
         os.dup2(nothing, sys.stdout.fileno())
@@ -143,7 +143,7 @@ def called_on(arguments: argparse.Namespace | None) -> str:
 
 
 def followed(words: Sequence[str] | None) -> int:
-    """Does what the words ask for; what goes wrong is a line and a number."""
+    """Executes the command; an error is printed as a line and becomes the exit status."""
     arguments = None
     words = sys.argv[1:] if words is None else words
     try:
@@ -170,10 +170,10 @@ def report_failure(failure: Failure) -> int:
 def main(words: Sequence[str] | None = None) -> int:
     open_streams()
     output.set_quiet(False)
-    # Names of files are bytes: what is no text in this locale goes out as it came in.
+    # File names are bytes: bytes that are not valid in this locale are printed unchanged.
     for stream in (sys.stdout, sys.stderr):
         if isinstance(stream, io.TextIOWrapper):
-            # Lines end the same on every system.
+            # Line ends are the same on every system.
             stream.reconfigure(encoding=sys.getfilesystemencoding(), errors="surrogateescape", newline="\n")
     try:
         with stopping():

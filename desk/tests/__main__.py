@@ -1,6 +1,6 @@
-"""Runs the tests of the desk and prints in one line how many ran, and how many were skipped for which reason.
+"""Runs the tests of the desk, and prints in one line how many ran, and how many were skipped for which reason.
 
-A test that takes longer than LIMIT seconds fails. A test that fails runs once more, because some tests wait for processes
+A test that takes longer than LIMIT seconds fails. A failed test runs once more, because some tests wait for processes
 and the machine may be busy; the output says so. Arguments are names of modules: `python -m tests test_harm`."""
 import collections
 import signal
@@ -16,7 +16,7 @@ SLOWEST = 10
 
 
 class TimedResult(unittest.TestResult):
-    """A result that stops each test at the limit and keeps how long it took."""
+    """A result that stops each test at the limit and records its duration."""
 
     def __init__(self) -> None:
         super().__init__()
@@ -49,7 +49,7 @@ def summary(result: unittest.TestResult) -> str:
 
 
 def once_more(result: unittest.TestResult) -> unittest.TestResult:
-    """Runs what failed again, each test by itself."""
+    """Runs each failed test again, by itself."""
     failed = {test.id(): test for test, _ in [*result.failures, *result.errors]}
     again = TimedResult()
     for test in failed.values():

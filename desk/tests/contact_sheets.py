@@ -33,14 +33,14 @@ ALPHABETS = """[00:06.00]\u65e5\u672c\u8a9e\u306e\u6b4c\u3001 then Latin
 
 
 class Cell(NamedTuple):
-    """A picture, and what is told below it."""
+    """A picture, and the text below it."""
 
     picture: bytes
     label: str
 
 
 def shown(packs: bytes, seconds: list[float], label: str, before: bytes = b"") -> list[Cell]:
-    """What stands at some seconds, after what stood before."""
+    """The pictures at some seconds, drawn over an earlier screen."""
     cells, done = [], 0
     with Player() as player:
         player.draw(before)
@@ -82,8 +82,8 @@ def duet() -> list[Cell]:
 
 
 def borders(folder: Path) -> list[Cell]:
-    """Both borders of an album as they are when it is played through, and for one who skips to the track with other
-    pictures on the screen."""
+    """Both borders of an album: for a listener who plays it through, and for one who skips to the track while another
+    picture is on the screen."""
     for name, seconds in (("morning", 29), ("duet", 51), ("evening", 28)):
         write_wav(folder / f"{name}.wav", 44_100 * seconds)
     tracks = "".join(

@@ -1,5 +1,5 @@
-"""What the tests of the desk share: where things are and what is there, calls of the desk and of the program, a folder
-for each test, and streams, sheets and audio to work on."""
+"""What the tests of the desk share: paths and installed tools, calls of the desk and of the program, a folder for each
+test, and streams, sheets and audio as inputs."""
 import contextlib
 import functools
 import importlib.util
@@ -20,7 +20,7 @@ from ribjasper import main
 from ribjasper.common import library, output, program as programs
 from ribjasper.drawing.lettering import DEFAULT_FONT
 
-# A shell that starts the tests in the background has them ignore signals, which the programs under test are to hear.
+# A shell that starts the tests in the background makes them ignore signals, but the tested programs must receive them.
 for number in (signal.SIGINT, signal.SIGTERM, signal.SIGHUP):
     if signal.getsignal(number) is signal.SIG_IGN:
         signal.signal(number, signal.SIG_DFL)
@@ -31,9 +31,9 @@ HELLO = TOP / "examples" / "hello.cue", TOP / "examples" / "hello.script"
 SONG = TOP / "examples" / "song"
 BLOCK, SECTOR, AUDIO, PACK = 96, 2448, 2352, 24
 PAUSE = 150
-# The stream of the examples has so many blocks of the lead-in and of the program.
+# The numbers of blocks in the lead-in and in the program of the example stream.
 LEAD_IN, PROGRAM_BLOCKS = 30, 1800
-# A lead-in that holds the texts of any sheet of the tests.
+# A lead-in with room for the texts of any sheet in the tests.
 ROOMY_LEAD_IN = 60
 
 Test = TypeVar("Test", bound=Callable[..., object])
@@ -48,7 +48,7 @@ def found_program() -> str | None:
 
 
 def has(*names: str) -> bool:
-    """Whether the library is there and has these calls."""
+    """Whether the library is there and has these functions."""
     try:
         return all(library.call(name) for name in names)
     except output.Missing:
@@ -85,24 +85,24 @@ class FolderTest(unittest.TestCase):
 
 
 class Ran(NamedTuple):
-    """What a command ended with, and what it printed."""
+    """The exit status of a command, and what it printed."""
 
     status: int
     out: str
     errors: str
 
     def cells(self) -> list[list[str]]:
-        """The lines of a table."""
+        """The cells of each line of a table."""
         return [line.split("\t") for line in self.out.splitlines()]
 
     def rows(self) -> list[dict[str, str]]:
-        """The lines of a table by the names in its first."""
+        """The lines of a table, by the names in its first line."""
         names, *rows = self.cells()
         return [dict(zip(names, row)) for row in rows]
 
 
 def desk(*words: Word, **options: Any) -> Ran:
-    """Runs a command of the desk: here, or with options of a process as a process of its own."""
+    """Runs a command of the desk: in this process, or with process options in a new one."""
     if options:
         ran = subprocess.run([sys.executable, DESK, *map(word, words)], capture_output=True, **options)
         return Ran(ran.returncode, text(ran.stdout), text(ran.stderr))
@@ -121,7 +121,7 @@ def text(printed: bytes) -> str:
 
 
 def program(*words: Word, stdin: bytes = b"", statuses: tuple[int, ...] = (0,)) -> bytes:
-    """What the program writes."""
+    """The output of the program."""
     assert PROGRAM is not None
     ran = subprocess.run([PROGRAM, *map(str, words)], input=stdin, capture_output=True)
     if ran.returncode not in statuses:
@@ -131,7 +131,7 @@ def program(*words: Word, stdin: bytes = b"", statuses: tuple[int, ...] = (0,)) 
 
 @functools.lru_cache(maxsize=None)
 def hello() -> bytes:
-    """The stream of the examples: 30 lead-in blocks and 1,800 of the program."""
+    """The stream of the examples: 30 lead-in blocks and 1,800 program blocks."""
     return program("author", "--lead-in", LEAD_IN, "--length", "00:22:00", "--", *HELLO)
 
 
@@ -141,7 +141,7 @@ def hello_packs() -> bytes:
 
 
 def author(sheet: bytes, length: str, folder: Path, lead_in: int = ROOMY_LEAD_IN) -> bytes:
-    """The stream of a sheet with no pictures."""
+    """The stream of a sheet without pictures."""
     (folder / "a.cue").write_bytes(sheet)
     (folder / "a.script").write_bytes(b"")
     return program("author", "--lead-in", lead_in, "--length", length, "--", folder / "a.cue", folder / "a.script")
@@ -158,12 +158,12 @@ def blocks(stream: bytes) -> list[bytes]:
 
 
 def as_sectors(stream: bytes) -> bytes:
-    """Each block behind the audio of its sector."""
+    """Each block after the audio of its sector."""
     return b"".join(bytes(AUDIO) + block for block in blocks(stream))
 
 
 def with_burst(stream: bytes, block: int, count: int, seed: int = 1, first: int = 0) -> bytes:
-    """A stream in which so many symbols in a row are wrong, from one of a block on."""
+    """A stream with `count` wrong symbols in a row, from a symbol of a block on."""
     changed, chance = bytearray(stream), random.Random(seed)
     for place in range(BLOCK * block + first, BLOCK * block + first + count):
         changed[place] ^= chance.randrange(1, 64)
@@ -171,7 +171,7 @@ def with_burst(stream: bytes, block: int, count: int, seed: int = 1, first: int 
 
 
 def with_bad_q(stream: bytes, block: int) -> bytes:
-    """A stream in which a Q frame has a bit turned."""
+    """A stream in which one bit of a Q frame is flipped."""
     changed = bytearray(stream)
     changed[BLOCK * block + 11] ^= 0x40
     return bytes(changed)
@@ -183,12 +183,12 @@ def with_zeros(stream: bytes, first: int, last: int) -> bytes:
 
 
 def without(stream: bytes, first: int, last: int) -> bytes:
-    """A stream that lacks blocks."""
+    """A stream with some blocks missing."""
     return stream[: BLOCK * first] + stream[BLOCK * (last + 1) :]
 
 
 def write_wav(path: Path, frames: int, rate: int = 44_100, channels: int = 2, width: int = 2) -> Path:
-    """A WAV file in which each sample is another number."""
+    """A WAV file in which all samples differ."""
     with wave.open(os.fspath(path), "wb") as file:
         file.setparams((channels, width, rate, 0, "NONE", ""))
         samples = bytes(number * 7 % 251 for number in range(min(frames, 44_100) * channels * width))
@@ -210,7 +210,7 @@ class Screen(NamedTuple):
 
 
 def screen(stream: Path, block: int, *form: Word, lead_in: int = ROOMY_LEAD_IN) -> Screen:
-    """What stands at a block of the program, by the program's `screen`."""
+    """The screen at a block of the program, from the command `screen`."""
     time = f"{block // 4500:02}:{block // 75 % 60:02}:{block % 75:02}"
     pixmap = program("screen", "--lead-in", lead_in, *form, "--at", time, "--", stream)
     return Screen(pixmap[15:])

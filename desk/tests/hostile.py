@@ -1,5 +1,5 @@
-"""Calls of the desk as chance makes them: whole, spoiled and foreign inputs, wrong words, and outputs in every place.
-`python3 -m tests.hostile COUNT [SEED]` tries so many of them and counts what each command ended with."""
+"""Random calls of the desk: valid, damaged and foreign inputs, wrong words, and outputs in every place.
+`python3 -m tests.hostile COUNT [SEED]` tries COUNT calls and counts their exit statuses."""
 import collections
 import contextlib
 import functools
@@ -23,15 +23,15 @@ from fixtures import BLOCK, HELLO, as_sectors, desk, hello, hello_packs, program
 
 from ribjasper.common import records
 
-# What the desk may end with; 8 is a fault of its own.
+# The allowed exit statuses; 8 is a bug of the desk.
 STATUSES = {0, 1, 2, 3, 4, 5, 6, 7}
-# After these the outputs of a call appear, and after others nothing does.
+# With these statuses the outputs of a call appear, with all others nothing does.
 WRITES = {0, 1, 4}
 PREFIX = "ribjasper-desk: "
 
 
 def png(width: int, height: int, row: bytes) -> bytes:
-    """A picture whose rows are all alike, by its parts."""
+    """A PNG picture with equal rows, built from its parts."""
 
     def chunk(kind: bytes, content: bytes) -> bytes:
         return struct.pack(">I", len(content)) + kind + content + struct.pack(">I", zlib.crc32(kind + content))
@@ -76,11 +76,11 @@ JOURNAL = b'{"stamp": "1 1.1.0 True 5 5 5", "row": {"file": "x", "status": "good
 
 @functools.lru_cache(maxsize=None)
 def samples() -> dict[str, tuple[bytes, ...]]:
-    """Inputs of each kind that are as they should be, all of them short."""
+    """Valid inputs of each kind, all of them short."""
     stream = hello()[: BLOCK * 330]
     packs = hello_packs()[: 24 * 4 * 300]
     short = program("author", "--lead-in", 60, "--length", "00:04:00", "--", *authored())
-    # A sheet whose only file is itself.
+    # A sheet whose only file is the sheet.
     sheeted = b'FILE "in-0" BINARY\n  TRACK 01 MODE1/2352\n    INDEX 01 00:00:00\nREM ' + b"x" * 2352
     return {
         "dump": (
@@ -131,7 +131,7 @@ def text_packs() -> bytes:
 
 
 def spoiled(draw: st.DrawFn, content: bytes) -> bytes:
-    """An input as it may arrive: cut off, with some bytes changed, with a stretch twice or away, or whole."""
+    """An input as it may arrive: cut off, with some changed bytes, with a repeated or missing stretch, or unchanged."""
     place = draw(st.integers(0, len(content)))
     length = draw(st.sampled_from((1, 1, 2, 5, 24, 96, 200)))
     match draw(st.sampled_from("whole whole whole cut flipped text away twice zeros random".split())):
@@ -174,12 +174,12 @@ def spoiled(draw: st.DrawFn, content: bytes) -> bytes:
 
 
 def chosen(draw: st.DrawFn, contents: tuple[bytes, ...]) -> bytes:
-    """One of some contents, by its number: a strategy of the contents themselves spells each of them out."""
+    """One of some contents, chosen by its number: a strategy of the contents would print each of them."""
     return contents[draw(st.integers(0, len(contents) - 1))]
 
 
 def an_input(draw: st.DrawFn, kind: str, is_careful: bool) -> bytes:
-    """An input of a kind; where nobody takes care it is spoiled, and sometimes of another kind."""
+    """An input of a kind; if the call is careless, it is damaged, and sometimes of another kind."""
     known = samples()
     if is_careful:
         return chosen(draw, (known[kind][0],) * 3 + known[kind])
@@ -188,7 +188,7 @@ def an_input(draw: st.DrawFn, kind: str, is_careful: bool) -> bytes:
 
 
 class Option(NamedTuple):
-    """An option: its word, what its value may be, the right ones first, and the kind of a file."""
+    """An option: its word, its possible values (the valid ones first), and the kind of its file."""
 
     word: str
     values: tuple[str, ...] = ()
@@ -199,14 +199,14 @@ class Option(NamedTuple):
 
 class Command(NamedTuple):
     words: tuple[str, ...]
-    # The kinds of its inputs; one that begins with ~ is named by another.
+    # The kinds of its inputs; one that begins with ~ is named in another input.
     inputs: tuple[str, ...]
     options: tuple[Option, ...]
-    # How often it is tried: those that take long seldom.
+    # How often it is tried: slow ones seldom.
     share: int = 4
 
 
-# Of the values of an option so many are right.
+# The number of valid values among the values of an option.
 RIGHT = 2
 NUMBERS = ("5", "12", "0", "1", "2", "30", "150", "-1", "", "x", "1.5", "nan", "1e999", "999999999999999999999", "٣")
 TIMES = ("00:22:00", "00:10:00", "00:04:00", "00:00:00", "99:59:74", "1:2:3", "00:60:00", "x")
@@ -396,7 +396,7 @@ COMMANDS = (
     ),
     Command(("report", "--jobs", "1", "--no-pictures"), ("folder",), (Option("-o", writes=True), FORCE), 1),
 )
-# Where an output may be.
+# The places of an output.
 PLACES = (
     "new",
     "new",
@@ -418,17 +418,17 @@ PLACES = (
 
 
 class Made(NamedTuple):
-    """A call: its words, in which a name of a file begins with @, the inputs, and the outputs."""
+    """A call: its words (those that begin with @ are file names), its inputs, and its outputs."""
 
     words: tuple[str, ...]
     inputs: dict[str, bytes]
     outputs: tuple[str, ...]
-    # Those of the inputs that the call reads.
+    # The inputs that the call reads.
     reads: frozenset[str]
 
     def __repr__(self) -> str:
-        """The words, and of each input its length, its checksum and its beginning; KEEP is a folder where they are
-        left."""
+        """The words, and the length, checksum and first bytes of each input; KEEP is a folder in which the inputs are
+        saved."""
         if keep := os.environ.get("KEEP"):
             for name, content in self.inputs.items():
                 (Path(keep) / name.replace("/", "-")).write_bytes(content)
@@ -439,7 +439,7 @@ class Made(NamedTuple):
 @st.composite
 def calls(draw: st.DrawFn, commands: tuple[Command, ...] = COMMANDS) -> Made:
     command = draw(st.sampled_from([one for one in commands for _ in range(one.share)]))
-    # How much of a call is as it should be: all, but for one input or word, or nothing.
+    # How much of a call is valid: all, all but one input or word, or nothing.
     care = draw(st.sampled_from((9, 9, 7, 0)))
     inputs: dict[str, bytes] = {}
     outputs: list[str] = []
@@ -488,7 +488,7 @@ def calls(draw: st.DrawFn, commands: tuple[Command, ...] = COMMANDS) -> Made:
 
 
 def lay(folder: Path, call: Made) -> None:
-    """The folder of a call: its inputs, and what is in the way of its outputs."""
+    """Fills the folder of a call: its inputs, and what is in the way of its outputs."""
     for name, content in call.inputs.items():
         (folder / name).parent.mkdir(exist_ok=True)
         (folder / name).write_bytes(content)
@@ -506,7 +506,7 @@ def lay(folder: Path, call: Made) -> None:
 
 
 def state(folder: Path) -> dict[str, tuple[object, ...]]:
-    """All that is in a folder: what each name is, and what it holds."""
+    """The content of a folder: the type and the content of each name."""
     found: dict[str, tuple[object, ...]] = {}
     for path in folder.rglob("*"):
         if path.name == records.RECORD:
@@ -537,10 +537,10 @@ def may_appear(call: Made, name: str) -> bool:
         place = REACHED.get(output, output)
         if name in call.reads:
             return False
-        # A name from which several are made leads nowhere itself.
+        # If an output is several files, its own name is none of them.
         if name == place or name in [output + ending for ending in ENDINGS]:
             return True
-        # A report is a folder, which may be made.
+        # A report is a folder, which the call may create.
         if (
             call.words[0] == "report"
             and place
@@ -551,24 +551,24 @@ def may_appear(call: Made, name: str) -> bool:
 
 
 def check(call: Made) -> int:
-    """Makes a call, and says what it ended with; anything that may not be is an error."""
+    """Makes a call and returns its exit status; everything that must not happen is an error."""
     with tempfile.TemporaryDirectory(prefix="ribjasper-hostile-") as room:
         folder = Path(room)
         lay(folder, call)
         before = state(folder)
         words = [f"{folder}/{word[1:]}" if word.startswith("@") else word for word in call.words]
-        # What a name without a folder makes is seen too.
+        # Names without a folder are written there too, and are seen.
         with contextlib.chdir(folder):
             ran = desk(*words)
         after = state(folder)
     message = f"{words}\nended with {ran.status}\n{ran.errors}"
     assert ran.status in STATUSES, message
     assert "Traceback" not in ran.errors, message
-    # A table stands on standard error if standard output is an output.
+    # A table is printed on standard error if standard output is an output.
     if ran.status != 2 and "-" not in call.outputs:
         assert all(line.startswith(PREFIX) for line in ran.errors.splitlines()), message
     if ran.status not in WRITES:
-        # A report that was refused may have made its folder and what it read before.
+        # A refused report may have created its folder and stored what it read before.
         if call.words[0] != "report":
             assert after == before, f"{message}\nchanged: {sorted(set(after) ^ set(before))}"
         assert ran.errors or call.words[0] == "report", message

@@ -1,6 +1,6 @@
-"""Dumps whose truth is known, in the forms that tools of the trade write, made from the written definitions of the
-subcode without a line of the desk or of its library. Words of R to W come from tests/peers/reckon_rows.py, which works
-them out by other means than the program."""
+"""Dumps whose content is known, in the forms that other tools write. They are made from the written definitions of the
+subcode, without code of the desk or of its library. The words of channels R to W come from tests/peers/reckon_rows.py,
+which computes them in another way than the program."""
 import functools
 import random
 import site
@@ -29,7 +29,7 @@ def q_frame(content: bytes) -> bytes:
 
 @dataclass(eq=False)
 class Track:
-    """A track: the absolute times at which its pause, where it has one, and its music begin, and of further indexes."""
+    """A track: the absolute times at which its pause (if any), its music, and further indexes begin."""
 
     number: int
     start: int
@@ -45,7 +45,7 @@ class Track:
 
 @dataclass(eq=False)
 class Disc:
-    """Tracks and the block at which the lead-out begins."""
+    """The tracks, and the block at which the lead-out begins."""
 
     tracks: list[Track]
     end: int
@@ -56,7 +56,7 @@ class Disc:
         return [track for track in self.tracks if track.begin <= block or track is self.tracks[0]][-1]
 
     def program_frame(self, block: int) -> bytes:
-        """The frame that tells where a block is."""
+        """The frame with the time of a block."""
         if block >= self.end:
             return q_frame(bytes([1, 0xAA, 1]) + time(block - self.end) + bytes(1) + time(block))
         track = self.track(block)
@@ -68,8 +68,8 @@ class Disc:
         )
 
     def frame(self, block: int) -> bytes:
-        """The frame of a block, one in a hundred a catalogue number, one a recording code. The first block of a track
-        may carry its code."""
+        """The frame of a block: one in a hundred has a catalogue number, and one a recording code. The first block of a
+        track may carry its code."""
         track = self.track(block)
         if block < self.end and self.catalogue and block % 97 == 40:
             return q_frame(bytes([track.control << 4 | 2]) + digits(self.catalogue + "000") + bytes([bcd(block % 75)]))
@@ -97,7 +97,7 @@ SPREAD = {byte: bytes((byte >> 7 - bit & 1) << 6 for bit in range(8)) for byte i
 
 
 def with_q(symbols: bytes, frame: bytes, p: bool = False) -> bytes:
-    """A raw block of its 96 symbols, a Q frame and the P bit."""
+    """A raw block from its 96 symbols, a Q frame and a P bit."""
     q = b"".join(SPREAD[byte] for byte in frame)
     total = int.from_bytes(symbols, "big") | int.from_bytes(q, "big")
     if p:
@@ -107,7 +107,7 @@ def with_q(symbols: bytes, frame: bytes, p: bool = False) -> bytes:
 
 @functools.lru_cache(maxsize=None)
 def pictures(count: int, seed: int = 1) -> tuple[bytes, ...]:
-    """So many packs of graphics."""
+    """Some packs of graphics."""
     chance = random.Random(seed)
     limits = (16, 16, 18, 50, *[64] * 12)
     return tuple(seal((9, 6), [chance.randrange(limit) for limit in limits]) for _ in range(count))
@@ -115,7 +115,7 @@ def pictures(count: int, seed: int = 1) -> tuple[bytes, ...]:
 
 @functools.lru_cache(maxsize=None)
 def symbols_of(density: float, slots: int = 1200, seed: int = 2) -> bytes:
-    """The symbols of slots that carry pictures over and over: what runs past their end stands at their beginning."""
+    """The symbols of slots that carry pictures again and again; symbols beyond the end are at the beginning."""
     chance, packs = random.Random(seed), pictures(150)
     symbols = bytearray(24 * slots)
     for slot in range(slots):
@@ -149,7 +149,7 @@ def program(disc: Disc, first: int, end: int, density: float = 0.5) -> bytes:
 
 
 def lead_in(disc: Disc, blocks: int) -> bytes:
-    """A lead-in whose symbols carry the texts over and over, as many times as there is room."""
+    """A lead-in whose symbols carry the texts again and again, as often as they fit."""
     packs = [disc.texts[start : start + 18] for start in range(0, len(disc.texts), 18)]
     parts = []
     for place in range(blocks):
@@ -167,13 +167,14 @@ def six_bits(pack: bytes) -> bytes:
 
 
 def redumper(disc: Disc, behind: int = 3000, density: float = 0.5) -> bytes:
-    """What redumper writes: 45,000 blocks in front that a drive did not give, the disc, and unread blocks behind."""
+    """A dump as redumper writes it: 45,000 blocks that the drive did not read, the disc, and unread blocks behind
+    it."""
     return bytes(BLOCK * REDUMPER_LEAD_IN) + program(disc, 0, disc.end, density) + bytes(BLOCK * behind)
 
 
 def two_sessions(first: Disc, second: Disc, lead_out: int = 6750, lead_in_blocks: int = 4500) -> bytes:
-    """What a drive reads of a disc with two sessions, from the first sector on: the program, the lead-out of the first
-    session, the lead-in of the second, and its program with the pause in front."""
+    """A disc with two sessions, as a drive reads it from the first sector: the program, the lead-out of the first
+    session, the lead-in of the second session, and its program with the pause in front."""
     begin = second.tracks[0].begin
     return (
         program(first, PAUSE, first.end + lead_out, 0)
@@ -183,8 +184,8 @@ def two_sessions(first: Disc, second: Disc, lead_out: int = 6750, lead_in_blocks
 
 
 def after(first: Disc, tracks: int, seconds: int, control: int = 0) -> Disc:
-    """The second session of a disc: so many tracks of so many seconds, behind a lead-out of 90 seconds and a lead-in of
-    60."""
+    """The second session of a disc: some tracks of some seconds each, after a lead-out of 90 seconds and a lead-in of
+    60 seconds."""
     start = first.end + 6750 + 4500 + PAUSE
     made = [
         Track(
@@ -198,12 +199,12 @@ def after(first: Disc, tracks: int, seconds: int, control: int = 0) -> Disc:
     return Disc(made, start + 75 * seconds * tracks)
 
 
-# How frames are changed by design. The published frames of a protected disc show this: one bit of each time is turned,
-# and two bits of the check of the right frame, as in 41 01 01 07 06 05 00 23 08 05 38 39 at 03:08:05.
+# How LibCrypt changes frames on purpose. The published frames of a protected disc show it: one bit of each time is
+# flipped, and two bits of the check of the original frame, as in 41 01 01 07 06 05 00 23 08 05 38 39 at 03:08:05.
 
 
 def libcrypt(right: bytes, seed: int, check_bits: int = 0x8001, of_content: bool = False) -> bytes:
-    """A frame as LibCrypt changes it; `of_content` turns the bits in the check of the changed frame."""
+    """A frame as LibCrypt changes it; with `of_content`, the flipped check is that of the changed frame."""
     chance, content = random.Random(seed), bytearray(right[:10])
     for first in (3, 7):
         content[first + chance.randrange(3)] ^= 1 << chance.randrange(8)
@@ -212,7 +213,7 @@ def libcrypt(right: bytes, seed: int, check_bits: int = 0x8001, of_content: bool
 
 
 def damaged_frame(right: bytes, chance: random.Random) -> bytes:
-    """A frame as a scratch or a weak drive leaves it: a few bits turned, a burst, or zeros."""
+    """A frame as a scratch or a weak drive leaves it: a few flipped bits, a burst, or zeros."""
     frame = int.from_bytes(right, "big")
     kind = chance.randrange(4)
     if kind == 0:
@@ -227,7 +228,7 @@ def damaged_frame(right: bytes, chance: random.Random) -> bytes:
     return (frame & (1 << 96) - 1).to_bytes(12, "big")
 
 
-# How a block stands in a file.
+# How a file stores a block.
 
 
 def split(stream: bytes, size: int = BLOCK) -> list[bytes]:
@@ -247,14 +248,15 @@ def as_planar(stream: bytes) -> bytes:
 
 
 def formatted_q(block: bytes, has_check: bool = True) -> bytes:
-    """The sixteen bytes in which drives give P and Q: the frame, three zeros, and P in the highest bit of the last."""
+    """The sixteen bytes in which drives return P and Q: the frame, three zeros, and P in the highest bit of the last
+    byte."""
     channels = planar(block)
     frame = channels[12:24] if has_check else channels[12:22] + bytes(2)
     return frame + bytes(3) + (b"\x80" if channels[0] & 0x80 else b"\0")
 
 
 def sound(sectors: int, seed: int = 4) -> list[bytes]:
-    """So many sectors of sound, a hundred of them over and over."""
+    """Some sectors of sound, with a period of a hundred sectors."""
     chance = random.Random(seed)
     some = [chance.randbytes(AUDIO) for _ in range(min(100, sectors))]
     return [some[place % len(some)] for place in range(sectors)]
@@ -269,7 +271,7 @@ EDC_TERMS = 1 << 32 | 1 << 31 | 1 << 16 | 1 << 15 | 1 << 4 | 1 << 3 | 1 << 1 | 1
 
 
 def remainder(polynomial: int, length: int) -> int:
-    """What is left of a polynomial over the field of two elements after division by that of the code."""
+    """The remainder of a polynomial over the field of two elements after division by the polynomial of the code."""
     for place in range(length - 1, 31, -1):
         if polynomial >> place & 1:
             polynomial ^= EDC_TERMS << place - 32
@@ -290,7 +292,7 @@ def edc(content: bytes) -> bytes:
 
 @functools.lru_cache(maxsize=None)
 def data_sector(block: int, mode: int = 1, form: int = 1, seed: int = 5) -> bytes:
-    """A data sector at an absolute time, with its error detection code; the rest of its error correction is noise."""
+    """A data sector at an absolute time, with its error detection code; its error correction code is noise."""
     chance = random.Random(1000 * seed + block)
     head = b"\0" + b"\xff" * 10 + b"\0" + time(block) + bytes([mode])
     if mode == 0:
@@ -317,7 +319,7 @@ def bytes_swapped(content: bytes) -> bytes:
 
 
 def scratched(stream: bytes, seed: int, every: int = 40, length: int = 30) -> bytes:
-    """A reading in which bursts of bytes are noise, one in so many blocks."""
+    """A reading with bursts of noise, one in every `every` blocks."""
     chance, worn = random.Random(seed), bytearray(stream)
     for block in range(chance.randrange(every), len(stream) // BLOCK - 1, every):
         at = BLOCK * block + chance.randrange(BLOCK)
@@ -326,12 +328,12 @@ def scratched(stream: bytes, seed: int, every: int = 40, length: int = 30) -> by
 
 
 def without_rw(stream: bytes) -> bytes:
-    """A reading of a drive that returns P and Q alone."""
+    """A reading of a drive that returns only P and Q."""
     return stream.translate(bytes(byte & 0xC0 for byte in range(256)))
 
 
 def album(minutes: float = 4, tracks: int = 3, catalogue: str = "") -> Disc:
-    """A disc of tracks of one length, each but the first with a pause of two seconds."""
+    """A disc whose tracks have the same length; each except the first has a pause of two seconds."""
     end = PAUSE + round(minutes * 60 * 75)
     step = (end - PAUSE) // tracks
     made = [
@@ -347,8 +349,8 @@ def text_pack(kind: int, track: int, number: int, where: int, content: bytes) ->
 
 
 def text_packs(language: int, first: int, kinds: dict[int, list[bytes]], width: int = 1) -> list[bytes]:
-    """The packs of a language, numbered from one on: of each kind the texts of the album and the tracks, or where there
-    is but one the bytes as they are."""
+    """The packs of a language, with consecutive numbers: for each kind the texts of the album and of the tracks, or, if
+    there is only one text, its bytes unchanged."""
     packs: list[bytes] = []
     for kind, texts in kinds.items():
         content = b"".join(text + bytes(width) for text in texts) if kind < 0x86 or kind == 0x8E else texts[0]
@@ -364,7 +366,7 @@ def text_packs(language: int, first: int, kinds: dict[int, list[bytes]], width: 
 def size_packs(
     language: int, first: int, code: int, tracks: int, packs: list[bytes], spoken: dict[int, int], last: dict[int, int]
 ) -> list[bytes]:
-    """The three size packs of a language: spoken says the language codes of all, last their last numbers."""
+    """The three size packs of a language: `spoken` are the codes of all languages, `last` their last numbers."""
     counts = [sum(pack[0] == 0x80 + kind for pack in packs) for kind in range(16)]
     counts[15] = 3
     sizes = bytes([code, 1, tracks, 0, *counts])

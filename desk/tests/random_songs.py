@@ -1,9 +1,9 @@
-"""Songs as chance makes them, decoded frame by frame: rows come in the order of singing, words are lit at their times, and
-no two lines are mixed. In desk/, `PYTHONPATH=.:tests python3 tests/random_songs.py COUNT [SEED]` tries so many songs and
-reports each violation.
+"""Random songs, decoded frame by frame: rows appear in the order of singing, words are lit at their times, and no two
+lines are mixed. In desk/, `PYTHONPATH=.:tests python3 tests/random_songs.py COUNT [SEED]` tries COUNT songs and reports
+each violation.
 
-What the screen shows is read from the packs of the track by the library's player. Of the desk's own work only the pictures
-of the rows are taken from it, where they stand, and the times of their words; nothing is taken from its line of time."""
+The player of the library draws the packs of the track. From the desk come only the pixels of the rows, their places and
+the times of their words; its schedule is not used."""
 import random
 import sys
 import tempfile
@@ -19,7 +19,7 @@ from ribjasper.songs.song_script import Made, Wishes, best
 from ribjasper.songs.tracks import track_packs
 
 BLOCKS, PAUSE = 75, 150
-# A word may be lit so many blocks late, which is 40 ms, and so many early, or as many as its tiles take: one pack each.
+# A word may be lit 3 blocks (40 ms) too late, and 10 blocks too early, or one block for each tile: a tile is one pack.
 LATE, EARLY = 3, 10
 WORDS = """river under morning light of the a we go home silver paper moon dancing slowly over hills and valleys
 tomorrow never knows my heart is calling you again over wide water bright summer evening falling""".split()
@@ -30,8 +30,8 @@ def spelled(time: float) -> str:
 
 
 def random_song(dice: random.Random) -> str:
-    """An LRC file: verses of 2 to 8 lines, rests of 3 to 30 s, 1 to 4 voices, with times of words or without. Each line
-    has a number, so that no two look alike."""
+    """An LRC file: verses of 2 to 8 lines, rests of 3 to 30 s, 1 to 4 voices, with or without times of words. Each line
+    has a number, so no two are equal."""
     voices, is_timed = dice.randint(1, 4), dice.random() < 0.6
     lines, time, number = [], dice.uniform(2, 14), 0
     if dice.random() < 0.5:
@@ -59,8 +59,8 @@ def random_song(dice: random.Random) -> str:
 
 @dataclass(eq=False)
 class Row:
-    """A row of the song: its page and place, its pixels as the bits of a number, when its words begin, and what was
-    seen of it: the first block with a part of it, with all of it, and with all of it lit."""
+    """A row of the song: its page and place, its pixels as the bits of a number, the times at which its words begin,
+    and the first blocks at which a part of it, all of it, and all of it lit were seen."""
 
     page: int
     slot: int
@@ -95,7 +95,7 @@ def rows_of(made: Made) -> list[Row]:
 
 
 def tiles_of(area: list[bytearray], top: int) -> set[tuple[int, int]]:
-    """The tiles of the screen in which an area from a row of pixels on has ink."""
+    """The tiles of the screen in which an area has ink; `top` is its first row of pixels."""
     return {(x // 6, (top + y) // 12) for y, row in enumerate(area) for x, pixel in enumerate(row) if pixel}
 
 
@@ -122,7 +122,7 @@ def row_of(placed: Placed, page: int) -> Row:
 
 
 class Watch:
-    """Looks at a song frame by frame."""
+    """Checks a song frame by frame."""
 
     def __init__(self, made: Made, name: str):
         self.rows, self.name, self.faults = rows_of(made), name, list[str]()
@@ -134,7 +134,7 @@ class Watch:
         self.still = [(placed.slot, still_ink(placed)) for placed in still]
         self.areas = {placed.slot: placed.area for page in made.maker.pages for placed in page.placed}
         self.shown: dict[int, Row | None] = {}
-        # The block at which each row is not shown any more.
+        # The block at which each row disappears.
         self.gone: dict[str, int] = {}
         self.worst = -1e9
 
@@ -149,7 +149,7 @@ class Watch:
         self.order(block)
 
     def look(self, block: int, slot: int, ink: int, lit: int) -> None:
-        """Which row stands in a place, and how much of it is lit."""
+        """Finds the row in a place, and how much of it is lit."""
         if not ink:
             if stood := self.shown.get(slot):
                 self.gone[stood.text] = block
@@ -162,7 +162,7 @@ class Watch:
         if not exact and any((ink & ~some).bit_count() <= 72 for some in stills):
             self.shown[slot] = None
             return
-        # The first columns of a text that is not sung may be those of a row too.
+        # The first columns of a text that is not sung may equal those of a row.
         if now not in exact and any(not ink & ~some for some in stills):
             self.shown[slot] = None
             return
@@ -175,7 +175,7 @@ class Watch:
             else min(fits, key=lambda one: (not_of(ink, one), -(ink & one.ink).bit_count()))
         )
         assert row
-        # A few pixels may be those of several rows.
+        # A few pixels may match several rows.
         if not row.seen and exact == [row]:
             row.seen = block
         if ink & row.ink == row.ink and not row.stands:
@@ -190,8 +190,8 @@ class Watch:
         self.shown[slot] = row if row.seen else None
 
     def order(self, block: int) -> None:
-        """Of two pages the rows of the later one stand above those of the earlier one that are not sung yet, and those
-        of one page in their order."""
+        """The rows of the later of two pages are above the unsung rows of the earlier one, and the rows of a page are
+        in order."""
         unsung = sorted((row for row in self.shown.values() if row and not row.sung), key=self.rows.index)
         for one, other in zip(unsung, unsung[1:]):
             if (one.page == other.page) != (one.slot < other.slot):
@@ -200,7 +200,7 @@ class Watch:
                 )
 
     def end(self) -> None:
-        """What the whole song has to have shown."""
+        """What must have been shown at the end of the song."""
         before: Row | None = None
         starts: dict[int, float] = {}
         for row in self.rows:
@@ -223,7 +223,7 @@ class Watch:
             off = row.begun.get(number, 10**6) - (PAUSE + BLOCKS * start)
             whole = row.lit.get(number, 10**6) - (PAUSE + BLOCKS * (end if self.made.maker.wishes.sweep else start))
             self.worst = max(self.worst, whole)
-            # The first column of a word that is swept over may have no ink.
+            # The first column of a word that is lit gradually may have no ink.
             column = BLOCKS * (end - start) / 3 * self.made.maker.wishes.sweep
             if not -max(EARLY, row.takes[number]) <= off <= LATE + 0.5 + column or whole > LATE + 0.5:
                 offs = f"{1000 * off / BLOCKS:.0f} and {1000 * whole / BLOCKS:.0f} ms"
@@ -237,12 +237,12 @@ class Watch:
 
 
 def lit_bits(rows: list[bytes]) -> int:
-    """One bit for each pixel in a colour of what is sung."""
+    """One bit for each pixel in the colour of sung text."""
     return int.from_bytes(b"".join(rows).translate(bytes(8) + bytes([1]) * 8 + bytes(240)), "big")
 
 
 def not_of(ink: int, row: Row) -> int:
-    """How many pixels are not those of a row: a tile that takes two packs shows others between them."""
+    """The number of pixels that do not belong to a row: a tile of two packs shows other pixels between them."""
     return (ink & ~(row.ink | row.dots)).bit_count()
 
 
@@ -261,7 +261,7 @@ def watch(path: Path, wishes: Wishes) -> Watch:
     seen = Watch(made, path.name)
     with Player() as player:
         done = 0
-        # A pack of a track stands in time with its sound: those that are whole by a block.
+        # A pack of a track is played in time with its sound: these are the packs that are complete at a block.
         for block in range(len(packs) // PACK // 4 + 1):
             until = 4 * block
             if player.draw(packs[PACK * done : PACK * until]).is_none:

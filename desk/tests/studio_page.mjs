@@ -1,9 +1,9 @@
-// The page of the studio in a Chromium without a window: a text is timed by taps, edited, undone, saved and made. What was
-// found is printed as JSON.
+// Drives the page of the studio in a Chromium without a window: a text is timed by taps, edited, undone, saved and made. The
+// results are printed as JSON.
 //
 //     node --experimental-websocket desk/tests/studio_page.mjs CHROMIUM ADDRESS FOLDER [times | look]
-//
-// With `times` it makes edits of a long song, and measures how long each takes until its picture stands on the page. With
+// With `times`, it edits a long song, and measures the time until the picture of each edit is on the page. With `look`, the
+// address is a page of `look`, whose names and colours are checked, and which is operated by keys.
 // `look` the address is that of a page of `look`, whose names and colours are checked, and which is used by keys.
 import { join } from "node:path";
 import { writeFileSync } from "node:fs";
@@ -19,7 +19,7 @@ const key = (key, more = {}) => Promise.all(["rawKeyDown", "keyUp"].map((type) =
 const control = (name) => key(name, { modifiers: 2 });
 const state = () => browser.value("studio.state");
 const revision = () => browser.value("studio.state.revision");
-/** What keeps its requests in order has none at work. */
+/** Waits until no request of the page is running. */
 const settled = () => browser.value("studio.sent.then(() => true)");
 const planned = async () => { await settled(); await browser.until("document.body.dataset.planned === String(studio.state.revision)"); };
 const set = (id, value) => browser.value(`(() => { const field = document.getElementById(${JSON.stringify(id)}); field.focus();
@@ -31,15 +31,15 @@ async function visit(url) {
 }
 
 const position = () => browser.value("document.getElementById('sound').currentTime");
-/** Notes where the sound is, all the time. */
+/** Records the position of the sound all the time. */
 const listen = () => browser.value(`(() => { globalThis.heard = []; const sound = document.getElementById("sound");
     setInterval(() => { if (!sound.paused) heard.push([performance.now(), sound.currentTime]); }, 15);
     globalThis.pressed = [];
     document.addEventListener("keydown", (event) => { if (event.key === " ") pressed.push(event.timeStamp); }, true); })()`);
 const now = () => performance.timeOrigin + performance.now();
 
-/** Taps near some seconds of the song, and gives where the sound was when the browser got each key: the middle of what was
- * noted around it. */
+/** Taps near some seconds of the song, and returns the positions of the sound when the browser got the keys: the middle of the
+ * positions recorded around each. */
 async function taps(targets, rate) {
     const [began, at] = await browser.value("[performance.timeOrigin + performance.now(), document.getElementById('sound').currentTime]");
     await browser.value("pressed.length = 0");
@@ -68,7 +68,7 @@ async function tapped() {
     return (await state()).lines.map((line) => line.words[0].start);
 }
 
-/** Goes back to a line while the song plays at half its speed, and taps its words again; then all of that is undone. */
+/** Jumps back to a line while the song plays at half speed, and taps its words again; then all of that is undone. */
 async function again() {
     const before = JSON.stringify((await state()).lines), count = (await state()).undo;
     await browser.value("document.querySelector('input[name=speed][value=\"0.5\"]').click()");
@@ -92,7 +92,7 @@ async function again() {
     await browser.value("document.querySelector('input[name=unit][value=line]').click()");
 }
 
-/** How long edits of a song take until they are seen, in milliseconds: a word moves, a line has other words. */
+/** The time until edits of a song are visible, in milliseconds: a word is moved, a line gets other words. */
 async function times() {
     await visit(address);
     await browser.until("document.body.dataset.planned === '0'");
@@ -108,14 +108,14 @@ async function times() {
     found.lines = (await state()).lines.length;
 }
 
-/** The names and roles of what can be used: an empty list if all have a name. */
+/** The names and roles of the controls without a name: an empty list if all have one. */
 async function nameless() {
     const { nodes } = await browser.send("Accessibility.getFullAXTree");
     const wanted = new Set(["button", "textbox", "combobox", "checkbox", "radio", "slider", "spinbutton", "image", "progressbar", "img"]);
     return nodes.filter((node) => !node.ignored && wanted.has(node.role?.value) && !node.name?.value).map((node) => node.role.value);
 }
 
-/** Colours of texts that are less than 4.5 from their grounds, by the formula of WCAG 2. */
+/** The colours of texts whose contrast with their background is below 4.5, by the formula of WCAG 2. */
 const faint = () => browser.value(`(() => {
     const parts = (colour) => colour.match(/[\\d.]+/g).map(Number);
     const light = (rgb) => { const [r, g, b] = rgb.map((one) => one / 255).map((one) => (one <= 0.04045 ? one / 12.92 : ((one + 0.055) / 1.055) ** 2.4));
@@ -141,7 +141,7 @@ async function main() {
 
     await again();
 
-    // An edit, its pictures, and what undo and redo make of it.
+    // An edit, its pictures, and the results of undo and redo.
     const lines = JSON.stringify((await state()).lines);
     await browser.value("document.querySelectorAll('#lines button')[2].click()");
     await set("words", "An|other third line");
@@ -160,7 +160,7 @@ async function main() {
     await control("y");
     await planned();
 
-    // A button that has the focus is activated by the space bar, and no time is set.
+    // The space bar activates a focused button, and sets no time.
     await browser.value("document.getElementById('undo').focus()");
     const before = await revision();
     await browser.press(" ", "Space", " ");
@@ -225,7 +225,7 @@ async function look() {
     await browser.until("document.getElementById('sound').currentTime > 8.3");
     found.followed = await chosen();
     await key("p");
-    // The space bar on a line that has the focus jumps to that line, and sets no time.
+    // The space bar on a focused line jumps to this line, and sets no time.
     await browser.value("document.querySelectorAll('#lines button')[0].focus()");
     await browser.press(" ", "Space", " ");
     found.jumped = [await chosen(), await position(), await browser.value("document.getElementById('message').textContent")];

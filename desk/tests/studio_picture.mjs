@@ -1,4 +1,4 @@
-// Draws docs/studio.png: the page of the studio with a song that is open at ADDRESS.
+// Draws docs/studio.png: the page of the studio with the song that is open at ADDRESS.
 //
 //     node --experimental-websocket desk/tests/studio_picture.mjs CHROMIUM ADDRESS FOLDER SECOND
 import { Browser, wait } from "../../tests/peers/browser.mjs";

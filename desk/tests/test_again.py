@@ -1,5 +1,5 @@
-"""`damage --again`: what is to be read again of discs whose damage is known, in each form of list; and what a drive
-said."""
+"""`damage --again`: the blocks to read again of discs with known damage, in each form of list; and the errors that a
+drive reported."""
 import random
 import re
 import unittest
@@ -14,7 +14,7 @@ PAUSE = 150
 
 
 def bad_q(stream: bytes, blocks: list[int]) -> bytes:
-    """A stream in which the checks of Q frames are wrong."""
+    """A stream in which some Q frames have wrong checks."""
     changed = bytearray(stream)
     for block in blocks:
         changed[BLOCK * block + 90] ^= 0x40
@@ -22,7 +22,7 @@ def bad_q(stream: bytes, blocks: list[int]) -> bytes:
 
 
 class DriveErrorsTest(FolderTest):
-    """The library is not needed."""
+    """These tests do not need the library."""
 
     def test_masks(self) -> None:
         chance, blocks = random.Random(1), 9000
@@ -78,7 +78,7 @@ class AgainTest(FolderTest):
             self.assertEqual(self.rows(lead + program(DISC, 150, DISC.end)), [])
 
     def test_what_is_damaged(self) -> None:
-        """Bad Q, empty blocks and missing ones by their addresses, wherever the dump begins."""
+        """Bad Q frames, empty blocks and missing blocks, by their addresses, wherever the dump begins."""
         stream = program(DISC, 150, DISC.end, 0)
         stream = bad_q(stream, [100, 101, 500])
         stream = stream[: BLOCK * 1000] + bytes(BLOCK * 20) + stream[BLOCK * 1020 :]
@@ -97,7 +97,7 @@ class AgainTest(FolderTest):
             self.assertEqual(self.rows(lead + stream), wanted)
 
     def test_lost_words(self) -> None:
-        """A word is spread over three blocks: all of those that are damaged are read again."""
+        """A word is spread over three blocks: all damaged blocks among them are read again."""
         stream = bytearray(program(DISC, 150, DISC.end, 1))
         chance = random.Random(2)
         for place in range(BLOCK * 700, BLOCK * 703):
@@ -130,7 +130,7 @@ class AgainTest(FolderTest):
         lines = [line for line in self.again(stream, "--again-as", "ddrescue").splitlines() if not line.startswith("#")]
         self.assertRegex(lines[0], r"^0x[0-9A-F]+ +[?*/\-+F] +\d+$")
         areas = [(int(at, 16), int(size, 16), status) for at, size, status in map(str.split, lines[1:])]
-        # Areas follow each other without a gap, up to the end of the disc.
+        # Areas follow each other without a gap up to the end of the disc.
         for before, behind in zip(areas, areas[1:]):
             self.assertEqual(before[0] + before[1], behind[0])
         self.assertEqual((areas[0][0], areas[-1][0] + areas[-1][1]), (0, 2048 * (DISC.end - PAUSE)))

@@ -1,5 +1,5 @@
 """`album`: each track begins clean from any screen, at its time, and nothing is drawn across a border; `pair`: the file
-that is sold begins with presets and colours, and is what hand work makes."""
+begins with presets and colours, and equals one made by hand."""
 import os
 import random
 import re
@@ -19,16 +19,16 @@ from ribjasper.common.player import Player
 from ribjasper.common.planning import least_lead_in
 
 Change = Callable[[str], str]
-# Lengths of the three songs in blocks; the second is no whole number of seconds.
+# The lengths of the three songs in blocks; the second one is not a whole number of seconds.
 LENGTHS = (20 * 75, 18 * 75 + 31, 25 * 75)
 GAP = 100
 SHEET = 'FILE "a.wav" WAVE\nTRACK 01 AUDIO\nINDEX 01 00:00:00\n'
-# What draws nothing but what it says: presets of memory and border, and the colours.
+# Instructions without tiles: presets of memory and border, and colours.
 PRESETS = [1, 2, 30, 31]
 
 
 def song(number: int) -> str:
-    """A song of two lines, which ends with letters on the screen."""
+    """A song of two lines that ends with letters on the screen."""
     return (
         f"[ti:Song {number}]\n[ar:Singer {number}]\n"
         f"[00:0{6 + number}.00]<00:0{6 + number}.00>First <00:0{6 + number}.50>line <00:0{7 + number}.00>of {number}\n"
@@ -66,7 +66,7 @@ class SongsTest(FolderTest):
 
 class AlbumTest(SongsTest):
     def begun(self, change: Change = str) -> Path:
-        """The list of the three songs, as `--new` begins it."""
+        """The list of the three songs, as `--new` writes it."""
         path = self.folder / "list.toml"
         ran = desk("album", "--new", *(self.folder / f"{number}.lrc" for number in (1, 2, 3)), "-o", path)
         self.assertEqual(ran.status, 0, ran.errors)
@@ -79,14 +79,14 @@ class AlbumTest(SongsTest):
         return ran
 
     def program(self) -> bytes:
-        """The blocks of the stream from the pause on."""
+        """The blocks of the stream, from the pause on."""
         sheet = (self.folder / "disc-sheet.cue").read_bytes()
         lead_in = least_lead_in(sheet, sum(LENGTHS) + 2 * GAP)
         return (self.folder / "disc.raw").read_bytes()[BLOCK * lead_in :]
 
     @staticmethod
     def starts() -> list[int]:
-        """Where the indices 01 are, in blocks of the program."""
+        """The places of the indexes 01, in blocks of the program."""
         return [PAUSE, PAUSE + LENGTHS[0] + GAP, PAUSE + sum(LENGTHS[:2]) + 2 * GAP]
 
     def test_the_list(self) -> None:
@@ -106,7 +106,7 @@ class AlbumTest(SongsTest):
         )
         ran = desk("album", "--new", self.folder / "1.lrc")
         self.assertIn("[[track]]", ran.out)
-        # What was written into a list is not lost.
+        # Edits of a list are not lost.
         ran = desk("album", "--new", self.folder / "1.lrc", "-o", self.folder / "list.toml")
         self.assertEqual((ran.status, (self.folder / "list.toml").read_text()), (3, text), ran.errors)
 
@@ -123,7 +123,7 @@ class AlbumTest(SongsTest):
                 self.assertNotEqual(whole.picture(), skipped.picture())
                 done = 0
                 seen: set[bytes] = set()
-                # From the third block of the track on, and then each fifth of a second.
+                # From the third block of the track on, and then every fifth of a second.
                 for until in [12, *range(60, 4 * (length - 2), 60)]:
                     whole.draw(packs[PACK * (4 * start + done) : PACK * (4 * start + until)])
                     skipped.draw(cut[PACK * done : PACK * until])
@@ -137,13 +137,13 @@ class AlbumTest(SongsTest):
         packs, _ = packs_of_blocks(self.program(), RAW, 0)
         ends = [0] + [start + length for start, length in zip(self.starts(), LENGTHS)]
         for end, start in zip(ends, self.starts()):
-            # A pack has eight slots, of which the first is seven before its own.
+            # A pack is spread over eight slots, of which the first is seven slots before its last.
             self.assertFalse(any(packs[PACK * max(0, 4 * end - 7) : PACK * 4 * start]))
             presets = packs[PACK * 4 * start :][: 24 * 8]
             self.assertEqual([presets[at + 1] for at in range(0, len(presets), PACK) if presets[at]][:4], PRESETS)
 
     def test_words_are_lit_at_their_times(self) -> None:
-        """The second line of each song, by the pixels that change colour."""
+        """The second line of each song, detected by the pixels that change colour."""
         self.album()
         packs, _ = packs_of_blocks(self.program(), RAW, 0)
         blue, white = (2 * 17, 8 * 17, 15 * 17), (255, 255, 255)
@@ -291,7 +291,7 @@ class PairTest(SongsTest):
             ]
             self.assertEqual(desk(*call).status, 0)
             made = (self.folder / name).read_bytes()
-            # Once more, and after the lyrics changed.
+            # Once more, and again after the lyrics changed.
             self.assertEqual(desk(*call).status, 0, name)
             other = made[:-10] + bytes(byte ^ 1 for byte in made[-10:])
             (self.folder / name).write_bytes(other)
@@ -341,7 +341,7 @@ class PairTest(SongsTest):
             RAW,
             0,
         )
-        # What is read of an image begins with the seventh pack of the file.
+        # A reader of the image gets the packs of the file from the seventh on.
         self.assertEqual(packs[PACK:], (self.folder / "one.cdg").read_bytes()[PACK * 8 :])
 
     def test_no_sound(self) -> None:

@@ -18,7 +18,7 @@ from fixtures import (
 import ribjasper
 
 PAGE = TOP / "docs" / "API.md"
-# The public names with what they take, a line each.
+# The public names with their parameters, one per line.
 PUBLIC = Path(__file__).resolve().parent / "public_names.txt"
 needs_numpy = needs("numpy", "python3-numpy")
 
@@ -47,8 +47,7 @@ def described() -> list[str]:
 
 class NamesTest(unittest.TestCase):
     def test_the_list_of_public_names(self) -> None:
-        """A public name or member that goes breaks programs; one that comes is a promise. The list says which there
-        are."""
+        """Removing a public name or member breaks programs, and adding one is a promise. The list has all of them."""
         self.assertEqual(described(), PUBLIC.read_text().splitlines())
         self.assertEqual(sorted(set(ribjasper.__all__)), sorted(ribjasper.__all__))
 
@@ -133,7 +132,7 @@ class DumpTest(FolderTest):
         self.assertFalse(dump.is_packs)
 
     def test_frames(self) -> None:
-        """The frames of the program count the time block by block; one that is bad is left out."""
+        """The frames of the program count the time block by block; a bad frame is left out."""
         dump = self.load(with_bad_q(hello(), LEAD_IN + 700))
         frames = {frame.block: frame for frame in dump.frames()}
         self.assertNotIn(LEAD_IN + 700, frames)
@@ -198,7 +197,7 @@ class DumpTest(FolderTest):
         self.assertEqual(len(mended.sources), len(hello_packs()) // PACK)
         stream = ribjasper.mend(self.load(first, "a.raw"), self.load(second, "b.raw"), as_stream=True)
         self.assertEqual(bytes(stream.content), hello()[BLOCK * LEAD_IN :])
-        # The dumps stay as they were.
+        # The dumps are unchanged.
         dump = self.load(first, "a.raw")
         ribjasper.mend(dump, self.load(second, "b.raw"))
         self.assertEqual((len(dump.damages()) > 0, dump.packs() != b"", dump.time(LEAD_IN + 203)), (True, True, 203))
@@ -226,7 +225,7 @@ class DumpTest(FolderTest):
 @needs_library
 class PlayerTest(FolderTest):
     def screens(self, stream: bytes, blocks: int) -> bytes:
-        """What the program shows after so many blocks of the stream."""
+        """The screen that the program writes after some blocks of the stream."""
         path, at = self.write("stream.raw", stream), blocks - LEAD_IN
         time = f"{at // 4500:02}:{at // 75 % 60:02}:{at % 75:02}"
         return program("screen", "--lead-in", LEAD_IN, "--at", time, "--", path)[15:]
@@ -258,7 +257,7 @@ class PlayerTest(FolderTest):
         player.close()
 
     def test_packs(self) -> None:
-        """Packs of a .cdg file draw when they come, not two blocks later."""
+        """Packs of a .cdg file are drawn at their times, not two blocks later."""
         player = ribjasper.load(self.write("dump.cdg", hello_packs())).player()
         player.seek(1000)
         drawn = ribjasper.Player(is_packs=True)

@@ -1,4 +1,4 @@
-"""`sheet` of discs whose truth is known: codes, sessions, jumps, cuts, the sheets of other tools, and what differs."""
+"""`sheet` of discs whose content is known: codes, sessions, jumps, cuts, the sheets of other tools, and differences."""
 import configparser
 import itertools
 import json
@@ -14,7 +14,7 @@ from ribjasper.dumps.comparing import read_cue
 
 
 def coded(tracks: int = 99, seconds: int = 5) -> Disc:
-    """A disc of short tracks, each with a code of its own, which its first block may carry."""
+    """A disc of short tracks, each with its own code, which its first block may carry."""
     step = 75 * seconds
     made = [
         Track(number, 150 + step * (number - 1), 0 if number == 1 else None, isrc=f"DEXYZ26{number:05}")
@@ -88,7 +88,7 @@ class SheetOfDumpsTest(FolderTest):
         self.assertIn("INDEX 01 00:30:00", lines)
 
     def test_a_long_pause_before_the_first_track(self) -> None:
-        """Music may hide in it."""
+        """It may contain hidden music."""
         disc = Disc([Track(1, 150 + 75 * 4, 0), Track(2, 150 + 75 * 10)], 150 + 75 * 20)
         for stream in (program(disc, 150, disc.end, 0), known.lead_in(disc, 60) + program(disc, 0, disc.end, 0)):
             lines, _ = self.sheet(stream)
@@ -128,7 +128,7 @@ class SheetOfDumpsTest(FolderTest):
         return first, known.after(first, 1, 30, control=4)
 
     def test_two_sessions(self) -> None:
-        """Lead-outs are those of the disc, whichever of its lead-ins and lead-outs are in the dump."""
+        """The lead-outs belong to the disc, whichever of its lead-ins and lead-outs are in the dump."""
         first, second = self.two_sessions()
         whole = known.two_sessions(first, second)
         ends = first.end, second.end
@@ -174,7 +174,7 @@ class SheetOfDumpsTest(FolderTest):
             self.assertEqual(desk("sheet", path, "--toc", "--session", 3).status, 3)
 
     def test_two_sessions_without_a_word_of_the_gap(self) -> None:
-        """Nothing but a sheet beside says where a session ends: the usual gap is taken, and that is said."""
+        """Only a sheet beside the dump says where a session ends: the usual gap is assumed, and a note says so."""
         first, second = self.two_sessions()
         whole = known.two_sessions(first, second)
         gap = first.end - 150
@@ -206,8 +206,8 @@ class SheetOfDumpsTest(FolderTest):
         self.assertIn("tracks 01 to 02, lead-out at 00:42:00", rows[1]["sessions"][0])
 
     def test_an_index_that_begins_with_a_code(self) -> None:
-        """A frame with the catalogue number or a code names no index: where codes or control bits of the tracks tell,
-        the index begins there, and otherwise the sheet says that it may."""
+        """A frame with the catalogue number or a code has no index: if the codes or control bits of the tracks show
+        where the index begins, it begins there; otherwise the sheet says that it may."""
         for where, hides, has_codes, controls in itertools.product((0, 2), (5, 6), (False, True), ((0, 0), (0, 4))):
             start = 150 + 75 * 20
             tracks = [
@@ -327,8 +327,8 @@ class SheetOfDumpsTest(FolderTest):
         )
 
     def test_a_sheet_compared_with_its_own_dump(self) -> None:
-        """Whatever the dump lacks, and whatever times count from, a sheet differs in nothing from the dump it was made
-        of."""
+        """Whatever the dump lacks, and from wherever times count, a sheet does not differ from the dump from which it
+        was made."""
         disc = coded(3, 20)
         whole = known.lead_in(disc, 60) + program(disc, 0, disc.end, 0)
         program_only = program(disc, 150, disc.end, 0)
@@ -369,8 +369,8 @@ class SheetOfDumpsTest(FolderTest):
         self.assertIn("the times of later files are not known", ran.errors)
 
     def test_a_cue_with_strange_names_and_numbers(self) -> None:
-        """A name that no file can have is that of none, and digits of other scripts are numbers or words as they may
-        be."""
+        """A name that no file can have names no file, and digits of other scripts are accepted as numbers or as parts
+        of words."""
         text = 'FILE "a\0b.bin" BINARY\nTRACK ² AUDIO\nTRACK 01 AUDIO\nINDEX ² 00:00:00\nINDEX 01 00:00:00\n'
         cue = read_cue("a.cue", text.encode())
         self.assertEqual([(it.number, it.indices) for it in cue.tracks], [(1, {1: 0})])

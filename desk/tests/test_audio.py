@@ -1,4 +1,4 @@
-"""The sound of a disc: which WAV files are taken as they are, what ffmpeg converts, and what is refused."""
+"""The sound of a disc: which WAV files are used unchanged, what ffmpeg converts, and what is refused."""
 import os
 import struct
 import subprocess
@@ -37,7 +37,7 @@ def wav(
 
 
 def extensible(form: int = 1, bits: int = 16) -> bytes:
-    """The longer header, whose form stands in its last sixteen bytes."""
+    """The longer header, whose last sixteen bytes contain the form."""
     tail = struct.pack("<HHIH", 22, bits, 3, form) + bytes.fromhex("000000001000800000aa00389b71")
     return wav(form=0xFFFE, rest=tail, bits=bits)
 
@@ -52,7 +52,7 @@ class BesideTest(FolderTest):
         ):
             path, other = self.write(lyrics, ""), self.write(sound, "")
             self.assertEqual(audio.sound_beside(path), other if is_found else None, lyrics)
-        # In doubt it is the one whose name has the same letters.
+        # If several files match, the one with the same upper and lower case is used.
         self.write("E.WAV", "")
         self.assertEqual(audio.sound_beside(self.write("e.lrc", "")), self.folder / "E.WAV")
         self.write("e.WAV", "")

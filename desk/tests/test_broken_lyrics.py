@@ -1,4 +1,4 @@
-"""Lyrics of all kinds with damage: a command reads them or refuses them in one line, and never fails by itself."""
+"""Damaged lyrics of all kinds: a command reads them or refuses them in one line, and never crashes."""
 import random
 import struct
 import time
@@ -18,7 +18,7 @@ LRC = "[ti:A song]\n[ar:Somebody]\n[offset:+200]\n[00:08.00]First line\n[00:11.0
 
 
 def midi(events: list[tuple[int, bytes]], kind: int) -> bytes:
-    """A MIDI file with texts at some ticks, 480 a beat."""
+    """A MIDI file with texts at some ticks, 480 per beat."""
     body, last = b"", 0
     for tick, text in events:
         after, last = tick - last, tick
@@ -72,7 +72,7 @@ MEGABYTE = 1_000_000
 
 
 def damaged(content: bytes, dice: random.Random) -> Iterator[bytes]:
-    """A file as it may arrive."""
+    """Variants of a file as it may arrive."""
     yield from (b"", content, content + bytes(1000), content.replace(b"\n", b"\r"), content.replace(b"\n", b" "))
     yield from (content[: dice.randrange(len(content))] for _ in range(4))
     yield content[dice.randrange(len(content)) :]
@@ -106,21 +106,21 @@ class ReadTest(FolderTest):
         for name, content in FORMATS.items():
             dice = random.Random(name)
             status = self.read(self.write(name, content))
-            # Only a detector of encodings knows Windows-1251.
+            # Only the detector of encodings knows Windows-1251.
             self.assertTrue(not status or name == "cp1251.lrc", (name, status))
             for spoiled in damaged(content, dice):
                 found.add(self.read(self.write(name, spoiled)))
         self.assertEqual(found, {0, 3})
 
     def test_a_megabyte_in_a_line(self) -> None:
-        """Reading takes time in proportion to the file: a line of a megabyte is there in seconds."""
+        """The reading time is proportional to the size of the file: a line of a megabyte takes seconds."""
         begun = time.monotonic()
         for name in ("plain.lrc", "k.ass", "beats.txt", "a.srt", "a.vtt"):
             for mark in (b"x", b"<", b"{", b"\n", b"-->"):
                 self.read(self.write(name, FORMATS[name] + mark * (MEGABYTE // len(mark))))
         for name, line in (("plain.lrc", b"[00:01.00]"), ("plain.lrc", b"[00:20.00]a\n"), ("a.srt", FORMATS["a.srt"])):
             self.read(self.write(name, FORMATS[name] + line * (MEGABYTE // 10 // len(line))))
-        # A quadratic search takes hours.
+        # A quadratic search would take hours.
         self.assertLess(time.monotonic() - begun, 120)
 
 

@@ -1,4 +1,4 @@
-"""Files beside a dump: what each tells, and that one which has no usable information costs nothing."""
+"""Files beside a dump: what each one says, and that a file without usable information changes nothing."""
 import struct
 import unittest
 
@@ -23,7 +23,7 @@ class CompanionsTest(FolderTest):
         return ran.rows()[0]
 
     def test_state_of_redumper(self) -> None:
-        """Where Q was not read it tells the lead-in, if it is as long as the dump."""
+        """If Q was not read, it gives the lead-in, provided that it is as long as the dump."""
         stream = without_q(known.redumper(DISC, 100))
         blocks = len(stream) // BLOCK
         row = self.found(stream, "a.subcode", state=bytes(588 * blocks))

@@ -1,4 +1,4 @@
-"""`convert` of the desk: every form into every other, parts by their addresses, and packs pressed into blocks."""
+"""`convert` of the desk: every form into every other form, parts by their addresses, and packs pressed into blocks."""
 import unittest
 from pathlib import Path
 
@@ -74,7 +74,7 @@ class ConvertTest(FolderTest):
         self.assertEqual(ran.status, 3)
 
     def test_from_packs(self) -> None:
-        """Packs that were pressed are read again where they were put."""
+        """Pressed packs are read again at their places."""
         for content, name in (
             (known.file_of_packs(1000), "a.cdg"),
             (known.file_of_packs(1001), "b.cdg"),

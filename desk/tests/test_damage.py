@@ -1,4 +1,4 @@
-"""`damage`: every run of damage is told, none is invented, and the map shows it."""
+"""`damage`: every run of damage is reported, no other one is, and the map shows it."""
 import unittest
 
 from fixtures import (
@@ -28,7 +28,7 @@ class DamageTest(FolderTest):
         self.assertEqual([list(row.values()) for row in rows], ["run 500 500 00:06:20 00:06:20 01 0 0 1 0".split()])
 
     def test_a_wrong_symbol(self) -> None:
-        """A wrong symbol is counted where its word is whole, up to two blocks later."""
+        """A wrong symbol is counted at the block that completes its word, up to two blocks later."""
         rows = self.found(with_burst(hello(), 1600, 1))
         self.assertEqual(len(rows), 1)
         self.assertEqual((rows[0]["kind"], rows[0]["bad"], rows[0]["corrected"]), ("run", "0", "1"))
@@ -58,7 +58,7 @@ class DamageTest(FolderTest):
         self.assertEqual([(row["first"], row["from"], row["to"]) for row in jumps], [("1200", "00:15:44", "00:15:35")])
 
     def test_jump_behind_bad_frames(self) -> None:
-        """Where the frames round a gap are bad it is told at the next block whose time is known."""
+        """If the frames around a gap are bad, it is reported at the next block whose time is known."""
         stream = without(hello(), 1000, 1074)
         for block in range(995, 1005):
             stream = with_bad_q(stream, block)

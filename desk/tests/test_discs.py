@@ -1,4 +1,4 @@
-"""What a cue sheet says of its disc: tracks by the index lines, and texts and codes of a whole sheet."""
+"""What a cue sheet says about its disc: tracks from the index lines, and the texts and codes of a whole sheet."""
 import ctypes
 import unittest
 
@@ -21,7 +21,7 @@ def row(
 
 
 class TracksTest(unittest.TestCase):
-    """An index stands at 150, its time, and all silence up to it."""
+    """An index is at block 150 plus its time, after any silence before it."""
 
     def test_one_track(self) -> None:
         self.assertEqual(tracks_of([row(7, 1, 0)]), [Track(7, 0, {0: 0, 1: 150})])
@@ -89,7 +89,7 @@ class ReadTest(FolderTest):
         self.assertEqual([disc.end_of(track) for track in disc.tracks], [460, 910])
 
     def test_a_long_text(self) -> None:
-        """One that is longer than what the desk gives room for at first: more than a disc holds, so the sheet is
+        """A text that is longer than the first buffer of the desk: it does not fit onto a disc, so the sheet is
         refused."""
         title = b"x" * 70_000
         self.assertEqual(

@@ -1,4 +1,4 @@
-"""Songs as documents: what is opened and saved is the same song, whatever kind of file it was; exports are read
+"""Songs as documents: opening and saving does not change a song, whatever the kind of its file; exports are read
 back."""
 import importlib
 import random
@@ -19,7 +19,7 @@ from ribjasper.songs.songs import Line, Song, Syllable
 
 needs_mido = needs("mido", "python3-mido")
 SONGS = 40
-# Texts of words; some look like parts of a format.
+# Texts of words, some of which look like parts of a format.
 WORDS = ["river", "under ", "M: ", "D:", "F: me", "a]b", "<", "100%", "it's", "\u6b4c", "e\u0301", "[x:y]", "v2: ", "...",
          "<00:01.00>", "~", "-", "\u201cyes\u201d", "{b}", "-->", "\\N", "#", "&", "night,"]  # fmt: skip
 PLAIN = ["river", "under", "mor", "ning", "light", "it's", "\u6b4c", "e\u0301a", "\u201cyes\u201d", "100%", "night,"]
@@ -44,7 +44,7 @@ RICH = """[ti:A title]
 
 
 def values(song: Song) -> list[object]:
-    """All of a song that its picture depends on."""
+    """All values of a song on which its picture depends."""
     lines = [
         (line.is_whole, line.until, [(one.text, one.start, one.end, one.voice) for one in line.syllables])
         for line in song.lines
@@ -159,7 +159,7 @@ KINDS = {"lrc": "lrc", "ass": "ass", "ultrastar": "txt", "srt": "srt", "vtt": "v
 
 class DocumentTest(FolderTest):
     def random_song(self, kind: str, seed: int) -> Path:
-        """A song of a kind, by chance."""
+        """A random song of a kind."""
         dice, path = Dice(f"{kind} {seed}"), self.folder / f"s{seed}.{KINDS[kind]}"
         if kind == "kar":
             dice.kar(path)
@@ -189,10 +189,10 @@ class DocumentTest(FolderTest):
             document = open_document(path)
             again = read_song(self.saved(document))
             self.assertEqual(values(again), values(song), path.read_bytes())
-            # A document without its files is written anew.
+            # A document without its files is written again.
             anew = self.saved(Document(document.song, document.rests, document.others))
             self.assertEqual(values(read_song(anew)), values(song), path.read_bytes())
-            # What was saved is opened and saved as it is.
+            # Opening and saving a saved document does not change it.
             files = anew.read_bytes(), beside(anew).read_bytes() if beside(anew).exists() else None
             self.assertEqual(open_document(anew).files(), files)
         self.assertGreater(read, SONGS // 3)
@@ -309,7 +309,7 @@ class DocumentTest(FolderTest):
     @needs_pillow
     @needs_font
     def test_the_script_is_the_same(self) -> None:
-        """The whole script, apart from the name of the lyrics in its first line."""
+        """The whole script except its first line, which has the name of the lyrics."""
         shutil.copy(SONG / "song.lrc", self.folder / "example.lrc")
         paths = [self.folder / "example.lrc"]
         paths += [self.random_song(kind, 1) for kind in KINDS if kind != "kar"]
@@ -359,7 +359,7 @@ class AnySongTest(FolderTest):
 
 
 class ExportTest(FolderTest):
-    """What is exported and read again has the same words, and times within the precision of the format."""
+    """An exported song that is read again has the same words, and its times within the precision of the format."""
 
     def song(self, seed: int) -> Song:
         dice, now, lines = random.Random(seed), 2.0, list[Line]()
@@ -368,7 +368,7 @@ class ExportTest(FolderTest):
             now += dice.uniform(0.3, 2.0)
             words = []
             for word in range(dice.randint(1, 5)):
-                # No two lines are alike, so that none is taken as sung by both.
+                # No two lines are equal, so none is taken as sung by both voices.
                 end = now + dice.uniform(0.05, 0.6)
                 words.append(
                     Syllable(

@@ -1,4 +1,4 @@
-"""Whatever goes wrong outside is a line that names the file, and a number of its own."""
+"""Every failure outside the desk is reported in a line that names the file, with its own exit status."""
 import errno
 import os
 import resource
@@ -28,7 +28,7 @@ from ribjasper.common.failures import (
 
 
 def called(error: BaseException, writing: bool = False) -> tuple[type[Failure], str, int]:
-    """What an exception becomes."""
+    """The failure that an exception is turned into."""
     failure = failure_of(error, "a\tb", writing)
     return type(failure), str(failure), failure.status
 
@@ -91,7 +91,7 @@ class TableTest(unittest.TestCase):
 
 class MainTest(FolderTest):
     def ended(self, error: BaseException) -> tuple[int, str]:
-        """What a command ends with in which this happens."""
+        """The exit status and the errors of a command in which this happens."""
         path = self.write("x", b"dump")
         with mock.patch("ribjasper.dumps.loading.DumpFile", side_effect=error):
             ran = desk("identify", path)
@@ -125,7 +125,7 @@ def signal_comes() -> None:
 @needs_library
 class MemoryTest(FolderTest):
     def test_a_process_that_is_given_little(self) -> None:
-        """Dumps of a whole disc, where there is memory for the desk and little more."""
+        """Dumps of a whole disc, with little more memory than the desk needs."""
         dump = self.folder / "dump"
         with open(dump, "wb") as file:
             for _ in range(96_000_000 // len(hello())):

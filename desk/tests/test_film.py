@@ -42,7 +42,7 @@ class FilmTest(FolderTest):
         starts = range(0, len(packs), 24)
         bare = b"".join(packs[at : at + 2] + bytes(2) + packs[at + 4 : at + 20] + bytes(4) for at in starts)
         frames = list(open_stream(self.write("a.cdg", bare)).frames(RATE, 600))
-        # At these times nothing is on its way.
+        # At these times no pack is being sent.
         for number in (60, 110, 350, 599):
             stands = screen(self.stream, min(BLOCKS_A_FRAME * number + 2, 1799)).pixels
             self.assertEqual(frames[number], stands, number)

@@ -1,5 +1,5 @@
-"""No command costs a user a file: an output that is read too, in each command and option; outputs that are pipes, links,
-devices and standard output; and what is there already."""
+"""No command destroys a file of a user: outputs that are also inputs, in each command and option; outputs that are
+pipes, links, devices and standard output; and existing outputs."""
 import hashlib
 import os
 import signal
@@ -30,7 +30,7 @@ def png() -> bytes:
 
 
 class CallsTest(FolderTest):
-    """A folder with an input of each kind, and what is in it before and after a call."""
+    """A folder with an input of each kind, and its content before and after a call."""
 
     def content(self) -> dict[str, str]:
         """The checksums of all files. Files may be long, and a failed comparison prints both sides."""
@@ -41,7 +41,7 @@ class CallsTest(FolderTest):
         }
 
     def refuses(self, *words: Word, why: str = "is an input", status: int = 3) -> Ran:
-        """A call that is refused, and after which all is as it was."""
+        """A call that is refused and changes nothing."""
         before = self.content()
         ran = desk(*words)
         self.assertEqual(ran.status, status, (words, ran.errors))
@@ -52,7 +52,7 @@ class CallsTest(FolderTest):
 
 
 class SameFileTest(CallsTest):
-    """An output that is an input is refused before anything is done: nothing of the library is needed."""
+    """An output that is an input is refused before anything is done; these tests do not need the library."""
 
     def test_each_command(self) -> None:
         dump = self.write("x", b"dump")
@@ -146,7 +146,7 @@ class SameFileTest(CallsTest):
 
 @needs_library
 class CompanionsTest(CallsTest):
-    """Files that a command reads, though no argument names them, are inputs."""
+    """Files that a command reads although no argument names them are inputs."""
 
     def setUp(self) -> None:
         super().setUp()
@@ -200,7 +200,7 @@ class OutputsTest(CallsTest):
         self.dump = self.write("x.raw", hello())
 
     def calls(self, out: Word) -> dict[str, tuple[Word, ...]]:
-        """A call for each command with one output, which is written to this name."""
+        """A call of each command with one output, which is written to this name."""
         packs = self.folder / "packs"
         if not packs.exists():
             packs.write_bytes(self.text_packs())
@@ -219,7 +219,7 @@ class OutputsTest(CallsTest):
         return made
 
     def expected(self) -> dict[str, bytes]:
-        """What each call writes to a file."""
+        """The bytes that each call writes to a file."""
         found = {}
         for name, words in self.calls(self.folder / "plain").items():
             ran = desk(*words)
@@ -285,7 +285,7 @@ class OutputsTest(CallsTest):
             )
 
     def test_again(self) -> None:
-        """What a command wrote it replaces without asking, until somebody changes it."""
+        """A command overwrites its own outputs without asking, until somebody changes them."""
         for name, words in self.calls(self.folder / "out.cdg").items():
             for _ in range(2):
                 self.assertEqual(desk(*words).status, 0, name)
@@ -326,7 +326,7 @@ class OutputsTest(CallsTest):
 @needs_library
 @needs_pillow
 class SeveralTest(CallsTest):
-    """Commands with several outputs: if one cannot be written the others do not appear."""
+    """Commands with several outputs: if one of them cannot be written, none appears."""
 
     @needs_plan
     def test_image(self) -> None:
@@ -387,7 +387,7 @@ class DrawnTest(CallsTest):
 
 
 class StoppedTest(CallsTest):
-    """A command that is stopped while it works leaves nothing, and says so."""
+    """A command that is stopped during its work leaves nothing behind, and says so."""
 
     def test_each_signal(self) -> None:
         song, script = self.folder / "song", self.write("s.script", b"# old\n")

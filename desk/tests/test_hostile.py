@@ -1,4 +1,4 @@
-"""Some thousand calls as chance makes them, the same in each run: see hostile.py."""
+"""Some thousand random calls, the same in each run: see hostile.py."""
 import unittest
 
 from fixtures import needs, needs_library, needs_plan

@@ -1,4 +1,4 @@
-"""`identify`: a dump of each form, the lead-in, what is carried, and what is no dump."""
+"""`identify`: a dump of each form, the lead-in, the content, and files that are not dumps."""
 import os
 import random
 import unittest
@@ -14,7 +14,7 @@ NAMES = ["file", "form", "lead-in", "graphics", "texts", "q-good", "notes"]
 @needs_library
 class IdentifyTest(FolderTest):
     def identified(self, content: bytes, status: int = 0) -> list[str]:
-        """The cells behind the name of a dump, but for the notes."""
+        """The cells after the name of a dump, without the notes."""
         path = self.write("dump", content)
         ran = desk("identify", path)
         self.assertEqual(ran.status, status, ran.errors)
@@ -41,7 +41,7 @@ class IdentifyTest(FolderTest):
         self.assertEqual(self.identified(hello()[BLOCK * (LEAD_IN + 150) :]), ["raw", "0", "yes", "no", "1.0000"])
 
     def test_lead_in_is_found_by_any_frame(self) -> None:
-        """Where the first frames of the program are bad the later ones tell N."""
+        """If the first frames of the program are bad, later ones give N."""
         zeros = bytes(BLOCK * 40)
         stream = hello()[: BLOCK * LEAD_IN] + zeros + hello()[BLOCK * (LEAD_IN + 40) :]
         self.assertEqual(self.identified(stream)[1], "30")
@@ -72,13 +72,13 @@ class IdentifyTest(FolderTest):
         self.assertEqual(self.identified(stream)[0], "raw")
 
     def test_long_dump(self) -> None:
-        """A dump that is tried in windows alone: its beginning and its end are damaged."""
+        """A dump of which only windows are tried: its beginning and its end are damaged."""
         clean = blocks(hello()[BLOCK * LEAD_IN :])
         stream = b"".join([bytes(BLOCK * 4000), *clean * 3, bytes(BLOCK * 4000)])
         self.assertEqual(self.identified(stream)[0], "raw")
 
     def test_what_is_no_dump(self) -> None:
-        """A file has one line, which says what it is or what to do; -v also says what speaks against each form."""
+        """Each file has one line, which says what it is or what to do; -v also says what rules out each form."""
         chance = random.Random(5)
         unknown = "no known form fits; give --form, --lead-in or --skip if you know them (details: identify -v)"
         for content, cause, against in (

@@ -1,4 +1,4 @@
-"""`image`: the sectors, what cdrdao reads of them, what would be lost in the first pause, and refusals."""
+"""`image`: the sectors, what cdrdao reads from them, what would be lost in the first pause, and refusals."""
 import os
 import re
 import subprocess
@@ -12,7 +12,7 @@ from fixtures import (
 )  # fmt: skip
 HELLO = TOP / "examples" / "hello.script"
 BLOCK, SECTOR, SOUND = 96, 2448, 2352
-# Three tracks with every kind of gap; track 2 begins at a block that carries the catalogue number.
+# Three tracks with every kind of gap; track 2 begins at a block with the catalogue number.
 SHEET = """CATALOG 4006381333931
 PERFORMER "The Lead-Ins"
 TITLE "All the Gaps"
@@ -190,7 +190,7 @@ class ImageTest(FolderTest):
         )
 
     def test_a_first_track_with_a_gap(self) -> None:
-        """The gap of the first track comes behind the pause, which is not on the image."""
+        """The gap of the first track follows the pause, which is not in the image."""
         self.sheet = self.write("b.cue", 'FILE "a.wav" WAVE\nTRACK 01 AUDIO\nPREGAP 00:02:00\nINDEX 01 00:00:00\n')
         self.stream = author(self.sheet, HELLO, "00:22:00", self.stream)
         self.image()

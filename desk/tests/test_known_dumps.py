@@ -1,5 +1,5 @@
-"""Dumps whose truth is known, in the forms of tools of the trade: form, header, lead-in, state and damage are right for
-each."""
+"""Dumps whose content is known, in the forms of other tools: the form, header, lead-in, state and damage are right for
+each one."""
 import functools
 import json
 import random
@@ -21,7 +21,7 @@ SHORT = album(0.5, 1)
 
 
 class Truth(NamedTuple):
-    """What is true of a dump: how it is made; what `identify` has to say; and the state that a report gives it."""
+    """The facts about a dump: how it is made, the result of `identify`, and its state in a report."""
 
     make: Callable[[], bytes]
     form: str
@@ -73,7 +73,7 @@ def high_bits(content: bytes) -> bytes:
     return bytes(byte | chance.randrange(4) << 6 for byte in content)
 
 
-# Dumps that hold a part of the disc, or of another disc.
+# Dumps with a part of the disc, or of another disc.
 PARTS = (
     "a block",
     "three blocks",
@@ -205,7 +205,7 @@ FORMS: dict[str, Truth] = {
 
 @needs_library
 class KnownDumpsTest(FolderTest):
-    """`identify`, and the state that a report gives."""
+    """`identify`, and the state in a report."""
 
     dumps: Path
 
@@ -238,7 +238,7 @@ class KnownDumpsTest(FolderTest):
                 self.check_sheet(case, truth, path)
 
     def check_sheet(self, case: str, truth: Truth, path: Path) -> None:
-        """The tracks of the disc, by a sheet; dumps that have no Q, or a part of the disc, are refused or have a
+        """The tracks of the disc in a sheet; dumps without Q are refused, and dumps of a part of the disc give a
         part."""
         ran = desk("sheet", path)
         has_q = "cooked" not in truth.form and "cdg" not in truth.form and "Q: not read" not in truth.note
@@ -248,8 +248,8 @@ class KnownDumpsTest(FolderTest):
             self.assertEqual(tracks, [("01", "00:00:00"), ("02", "01:20:00"), ("03", "02:40:00")])
 
     def test_packs_have_no_header(self) -> None:
-        """Whatever their number, with parity and without, dense and sparse, torn, and behind idle ones: the first pack
-        is the first of the file, unless --skip says otherwise."""
+        """The first pack is the first of the file, unless --skip says otherwise: for any number of packs, with and
+        without parity, dense and sparse, with a torn last pack, and behind idle packs."""
         chance = random.Random(1)
         for number in range(16):
             content = packs(chance.randrange(15_990, 20_000), chance.choice((0.05, 0.5, 1)))
@@ -266,7 +266,7 @@ class KnownDumpsTest(FolderTest):
         self.assertIn("header: 24 bytes in front", ran.out)
 
     def test_a_file_that_convert_writes_is_read_whole(self) -> None:
-        """A minute of packs, whose number is no multiple of four."""
+        """A minute of packs, whose number is not a multiple of four."""
         out, again = self.folder / "out.cdg", self.folder / "again.cdg"
         self.assertEqual(desk("convert", self.write("a.raw", raw()), "-o", out).status, 0)
         whole = out.read_bytes()

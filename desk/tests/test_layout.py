@@ -1,5 +1,5 @@
-"""The structs that the desk declares for the library lie in memory as tools/check/abi.txt lists them. check_abi.py
-compares that list with the header, as a C compiler lays it out."""
+"""The structs that the desk declares for the library have the layout in tools/check/abi.txt. check_abi.py compares that
+list with the header, as a C compiler lays it out."""
 import ctypes
 import inspect
 import re
@@ -21,7 +21,7 @@ Layout = dict[str, tuple[int, int]]
 
 
 def listed() -> tuple[dict[str, int], dict[str, Layout]]:
-    """The size of each struct of the header, and the place and size of each of its fields."""
+    """The size of each struct of the header, and the offset and size of each of its fields."""
     sizes: dict[str, int] = {}
     fields: dict[str, Layout] = {}
     for line in LIST.read_text().splitlines():
@@ -35,7 +35,7 @@ def listed() -> tuple[dict[str, int], dict[str, Layout]]:
 
 
 def declared() -> dict[str, type[ctypes.Structure]]:
-    """The structs of the desk by their names in the header."""
+    """The structs of the desk, by their names in the header."""
     found = {}
     for name, kind in inspect.getmembers(library, inspect.isclass):
         if issubclass(kind, ctypes.Structure) and kind.__module__ == library.__name__:

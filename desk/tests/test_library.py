@@ -1,4 +1,4 @@
-"""Calls of the library that the desk stands on, by numbers that are reckoned another way."""
+"""Functions of the library that the desk uses, compared with numbers that are computed another way."""
 import unittest
 
 from fixtures import has
@@ -7,8 +7,8 @@ from ribjasper.common import library
 
 
 def rank(numbers: list[int]) -> int:
-    """How many of the differences from the first number are independent, as sums without carry: each pack of a tile
-    adds one to what the tile can have, but the first, which sets two colours."""
+    """The number of independent differences from the first number, as sums without carry: each pack of a tile except
+    the first, which sets two colours, adds one of them."""
     found: list[int] = []
     for number in numbers[1:]:
         difference = number ^ numbers[0]

@@ -1,4 +1,4 @@
-"""`look`: the page shows what the player shows, tells what is late, and keys move what is sung; in node and in
+"""`look`: the page shows what the player shows, reports what is late, and keys change the times; in node and in
 Chromium."""
 import base64
 import json
@@ -67,7 +67,7 @@ class LookTest(FolderTest):
         return found[1]
 
     def screens(self, blocks: list[int]) -> list[bytes]:
-        """What the player shows of the pair of this song at some blocks."""
+        """The screens of the player at some blocks of the pair of this song."""
         desk("pair", self.song, "-o", self.folder / "b")
         packs, shown = (self.folder / "b.cdg").read_bytes(), []
         with Player() as player:
@@ -95,7 +95,7 @@ class LookTest(FolderTest):
         self.assertEqual(song["lines"][1]["late"], "")
 
     def test_changes_give_the_screens_of_the_player(self) -> None:
-        """By another reader of the changes than that of the page."""
+        """With another reader of the changes than that of the page."""
         with mock.patch.dict(os.environ, {"RIBJASPER_WEB": str(self.folder)}):
             changes = zlib.decompress(base64.b64decode(self.part(self.page(), "changes")))
         pixels, at, shown = bytearray(WIDTH * HEIGHT), 0, {}
@@ -145,8 +145,8 @@ class LookTest(FolderTest):
 
     @needs_node
     def test_what_is_not_edited_is_saved_whole(self) -> None:
-        """Rests, ends of words and lines, names, tags and pictures; the file is spelled out by hand as the page writes
-        it."""
+        """Rests, ends of words and lines, names, tags and pictures; the expected file is written out by hand, as the
+        page writes it."""
         rich = """[ti:A title]
 [by:Nobody]
 [singer:Ann]
@@ -181,8 +181,8 @@ class LookTest(FolderTest):
 
     @needs_node
     def test_keys_of_what_has_the_focus(self) -> None:
-        """Space on a button is the button's own, arrows on the slider are the slider's own, and others are the
-        page's."""
+        """A focused button handles space itself, and a focused slider the arrow keys; all other keys belong to the
+        page."""
         found = self.node(
             """const on = (names) => ({ closest: (asked) => asked.split(", ").some((one) => names.includes(one)) ? {} : null });
             const key = (key, ...names) => look.isOwnKey({ key, target: on(names) });
@@ -197,8 +197,8 @@ class LookTest(FolderTest):
         self.assertEqual(moved, [4, 6, 12, 0, 0, 12, None])
 
     def test_colours_of_the_page_can_be_read(self) -> None:
-        """By the formula of WCAG 2: 4.5 for text, on the page and on the band of the chosen line; 3 for bars and
-        edges."""
+        """By the formula of WCAG 2: contrasts of 4.5 for text, on the page and on the band of the chosen line, and 3
+        for bars and edges."""
         page = SCRIPT.with_suffix(".html").read_text()
         themes = re.findall(r":root \{([^}]*--ground[^}]*)\}", page)
         self.assertEqual(len(themes), 2)
@@ -249,7 +249,7 @@ class LookTest(FolderTest):
     @needs_node
     @unittest.skipUnless(CHROMIUM, "chromium is not installed")
     def test_keys_names_and_colours(self) -> None:
-        """All that can be used has a name, all texts can be read in both themes, and keys do what the page says."""
+        """Every control has a name, all texts are readable in both themes, and keys do what the page says."""
         self.page()
         driver = Path(__file__).with_name("studio_page.mjs")
         call = ["node", "--experimental-websocket", "--no-warnings", str(driver), str(CHROMIUM)]

@@ -1,4 +1,4 @@
-"""`lyrics`: that each script is in time, that its letters can be read, and that words are lit when they are sung."""
+"""`lyrics`: each script is in time, its letters can be read, and words are lit when they are sung."""
 import itertools
 import math
 import unittest
@@ -37,7 +37,7 @@ def rgb(colour: Colour) -> tuple[int, int, int]:
 
 
 def lab(colour: Colour) -> tuple[float, float, float]:
-    """A colour in CIELAB, by the formulas of IEC 61966-2-1 and of CIE for the white of D65: a distance of 2 can be seen."""
+    """A colour in CIELAB, by the formulas of IEC 61966-2-1 and of CIE for the white D65: a distance of 2 is visible."""
     parts = [part / 15 for part in colour]
     red, green, blue = (part / 12.92 if part <= 0.04045 else ((part + 0.055) / 1.055) ** 2.4 for part in parts)
     x = (0.4124 * red + 0.3576 * green + 0.1805 * blue) / 0.95047
@@ -64,7 +64,7 @@ class StylesTest(FolderTest):
                 self.assertGreater(math.dist(lab(one.sung), lab(other.sung)), 45, (name, one, other))
 
     def test_contrast(self) -> None:
-        # By the formula of WCAG 2: black and white, and the grey of #777, which is known for its 4.48.
+        # By the formula of WCAG 2: black and white, and the grey #777, whose contrast is known to be 4.48.
         black, grey, white = (Colour(*(part,) * 3) for part in (0, 7, 15))
         self.assertAlmostEqual(contrast(black, white), 21, places=6)
         self.assertAlmostEqual(contrast(grey, white), 4.48, places=2)
@@ -119,7 +119,7 @@ class StylesTest(FolderTest):
 
 class ScriptTest(FolderTest):
     def made(self, song: Path, *words: Word, status: int = 0) -> tuple[Ran, Path, Maker]:
-        """Runs the command and keeps the pages that it made, to know where each word stands."""
+        """Runs the command and keeps its pages, in order to know the place of each word."""
         script, kept = self.folder / "a.script", list[Made]()
 
         def keep(song: Song, wishes: Wishes) -> Made:
@@ -141,12 +141,12 @@ class ScriptTest(FolderTest):
 
     @staticmethod
     def letters(placed: Placed) -> list[bytes]:
-        """The numbers of the pixels of a line; 3 is the full colour of the first voice, 7 of the second."""
+        """The numbers of the pixels of a line; 3 is the full colour of the first voice, 7 that of the second."""
         assert placed.letters
         return placed.letters.rows
 
     def pixels(self, placed: Placed, left: int, right: int, ink: int) -> list[tuple[int, int]]:
-        """The pixels of a part of a line that have a number."""
+        """The pixels of a part of a line that have this number."""
         return [
             (x, placed.top + y)
             for y, row in enumerate(self.letters(placed))
@@ -155,19 +155,19 @@ class ScriptTest(FolderTest):
         ]
 
     def screens(self, script: Path) -> Iterator[tuple[int, bytes]]:
-        """What stands at each block of the program from the end of the pause on: the numbers of all pixels."""
+        """The screen at each block of the program from the end of the pause on, as the numbers of all pixels."""
         packs, _ = packs_of_blocks(self.stream(script).read_bytes(), RAW, LEAD_IN)
         with Player() as player:
             done, pixels = 0, player.screen()
             for block in range(PAUSE, len(packs) // PACK // 4 + 2):
-                # A pack has eight slots, four of them in a block: those that are whole by this block.
+                # A pack is spread over eight slots, four per block: these packs are complete at this block.
                 if not player.draw(packs[PACK * done : PACK * (4 * block - 7)]).is_none:
                     pixels = player.screen()
                 done = 4 * block - 7
                 yield block, pixels
 
     def pictures(self, script: Path, blocks: list[int]) -> dict[int, Screen]:
-        """What stands at some blocks of the program, by the library; at the first of them by the program too."""
+        """The screens at some blocks of the program, from the library; at the first of them from the program too."""
         stream = self.stream(script)
         packs, _ = packs_of_blocks(stream.read_bytes(), RAW, LEAD_IN)
         shown, done = {}, 0
@@ -180,7 +180,7 @@ class ScriptTest(FolderTest):
         return shown
 
     def check_words(self, script: Path, maker: Maker, step: int = 1) -> None:
-        """That words stand in the one colour before their times, and in the other from them on."""
+        """Checks that words have the one colour before their times, and the other one from then on."""
         style, seen = maker.style, 0
         lights = [due for due in maker.dues if not isinstance(due.steps[0], DotOut)]
         early = {due: due.block - EARLY - blocks_for(due.steps) - 1 for due in lights}
@@ -349,7 +349,7 @@ class LyricsTest(ScriptTest):
         self.is_planned(script)
 
     def test_both_directions_in_one_line(self) -> None:
-        """Each word is lit where it stands: alone it has the same pixels, as Pillow draws the line."""
+        """Each word is lit at its place: alone it has the same pixels as in the line that Pillow draws."""
         from PIL import Image, ImageDraw, ImageFont
 
         texts = (
@@ -363,7 +363,7 @@ class LyricsTest(ScriptTest):
             _, script, maker = self.made(self.write("a.lrc", f"[00:10.00]{line}<00:18.00>\n"), "--size", "18")
             placed = next(placed for page in maker.pages for placed in page.placed if placed.letters)
             assert placed.letters
-            # The whole line as Pillow's own layout draws it, and each word as a picture of its own.
+            # The whole line in Pillow's own layout, and each word as its own picture.
             font = ImageFont.truetype(str(maker.font.paths[0]), 18)
             whole = self.light(Image, ImageDraw, font, text)
             left = next(x for x in range(288) if any(row[x] for row in self.letters(placed)))
@@ -376,12 +376,12 @@ class LyricsTest(ScriptTest):
                 one = self.light(Image, ImageDraw, font, word)
                 at = min(extent[0] for extent in extents) - left
                 best = min(range(0, whole.width - one.width + 1), key=lambda x: self.differs(whole, one, x))
-                # A blank may belong to the word on either side.
+                # A space may belong to the word on either side.
                 self.assertLess(abs(best - at), 4 + font.getlength(" "), (text, word, extents, left))
 
     @staticmethod
     def light(image: Any, draw: Any, font: Any, text: str) -> Any:
-        """A text as Pillow lays it out by itself, without what is free around it."""
+        """A text in Pillow's own layout, without the margins around it."""
         page = image.new("L", (600, 60), 0)
         draw.Draw(page).text((100, 40), text, 255, font=font, anchor="ls")
         box = page.getbbox()
@@ -410,7 +410,7 @@ class LyricsTest(ScriptTest):
         self.assertIn("which ends at 00:05.00", ran.errors)
 
 
-# Lines that follow each other quickly, in the same places.
+# Lines in the same places, in quick succession.
 QUICK = "".join(
     f"[00:{8 + 2 * number:02}.00]"
     + "".join(
@@ -444,7 +444,7 @@ class ReadableTest(ScriptTest):
         return found
 
     def shown(self, pixels: bytes, maker: Maker, slot: int) -> set[tuple[int, int]]:
-        """The pixels in a place of the page that are not of the ground."""
+        """The pixels in a place of the page that are not background."""
         area, top = self.area(pixels, maker, slot), maker.style.top(slot)
         return {(at % 288, top + at // 288) for at, pixel in enumerate(area) if pixel}
 
@@ -456,7 +456,7 @@ class ReadableTest(ScriptTest):
         return b"".join(pixels[WIDTH * y + 6 : WIDTH * y + 294] for y in rows)
 
     def check_clear(self, script: Path, maker: Maker) -> None:
-        """That the pixels that stand in a place of the page are of one line at each block."""
+        """Checks that all pixels in a place of the page belong to one line, at each block."""
         inks = {slot: [self.ink(placed, maker) for placed in some] for slot, some in self.slots(maker).items()}
         seen, before = set(), b""
         for block, pixels in self.screens(script):
@@ -467,7 +467,7 @@ class ReadableTest(ScriptTest):
             before = pixels
             for slot, lines in inks.items():
                 shown = bits([self.area(pixels, maker, slot)])
-                # A tile that takes two packs may show other pixels between them.
+                # A tile of two packs may show other pixels between them.
                 fits = [number for number, ink in enumerate(lines) if self.is_in_a_tile(shown & ~ink)]
                 self.assertTrue(fits, (block, slot))
                 seen |= {(slot, fits[0])} if shown else set()
@@ -483,10 +483,10 @@ class ReadableTest(ScriptTest):
 
     @staticmethod
     def is_in_a_tile(marks: int) -> bool:
-        """Whether the pixels of a place are those of one tile at most."""
+        """Whether the pixels of a place belong to at most one tile."""
         tiles = set[tuple[int, int]]()
         while marks and len(tiles) < 2:
-            # One bit a byte, counted from the last pixel.
+            # One bit per byte, counted from the last pixel.
             at = (marks.bit_length() - 1) // 8
             tiles.add((at % 288 // 6, at // 288 // 12))
             marks ^= 1 << 8 * at
@@ -527,7 +527,7 @@ class ReadableTest(ScriptTest):
                 if is_lit:
                     lit_at.setdefault(number, block)
         self.assertEqual(len(lit_at), len(columns))
-        # Over the five seconds of the line.
+        # During the five seconds of the line.
         self.assertAlmostEqual(lit_at[len(columns) // 2] / 75, 2 + 12.5, delta=0.4)
         self.assertLess(lit_at[len(columns) - 1], PAUSE + 75 * 15 + 2)
 
@@ -574,7 +574,7 @@ class ReadableTest(ScriptTest):
             placed for page in maker.pages for placed in page.placed if placed.letters and placed.is_sung
         )
         numbers = [set(b"".join(self.letters(placed))) for placed in (first, second, both)]
-        # Four levels each, the ground among them.
+        # Four levels each, one of them the background.
         self.assertEqual(numbers, [{0, 1, 2, 3}, {0, 5, 6, 7}, {0, 1, 2, 3, 5, 6, 7}])
         rows = [{number & 4 for number in row if number} for row in self.letters(both)]
         self.assertEqual([row for row in rows if row], sorted((row for row in rows if row), key=max))
@@ -589,7 +589,7 @@ class ReadableTest(ScriptTest):
         self.assertIn("only one voice sings, so there is no legend", ran.errors)
 
     def dots(self, pixels: bytes, placed: Placed) -> int:
-        """How many of the dots above a line stand."""
+        """The number of dots above a line that are shown."""
         return sum(pixels[WIDTH * (placed.top - 7 + 12) + left + 3 + 6] == 3 for left in placed.dots)
 
     def test_a_line_after_a_rest_is_counted_in(self) -> None:
@@ -655,7 +655,7 @@ class ReadableTest(ScriptTest):
         ground, numbers = b"".join(maker.ground.rows), set(b"".join(maker.ground.rows))
         self.assertGreater(len(numbers), 4)
         self.assertFalse(numbers & {1, 2, 3, 4, 9, 10, 11})
-        # Letters have an outline on it, and when they go the picture is whole again.
+        # Letters on it have an outline, and when they disappear, the picture is whole again.
         placed = next(placed for page in maker.pages for placed in page.placed if placed.letters)
         self.assertIn(4, set(b"".join(self.letters(placed))))
         differ = {

@@ -1,4 +1,4 @@
-"""What all commands share: the version, help, and what is told where something has to be installed or built."""
+"""What all commands share: the version, help, and the message if something has to be installed or built."""
 import os
 import subprocess
 import sys
@@ -32,7 +32,7 @@ class MainTest(FolderTest):
 
     @needs_library
     def test_without_a_package(self) -> None:
-        """Each package is asked for where it is used, and named."""
+        """Each missing package is named where it is needed."""
         for module in ("PIL", "distributed"):
             folder = self.folder / "broken" / module
             folder.mkdir(parents=True)

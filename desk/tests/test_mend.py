@@ -1,4 +1,4 @@
-"""`mend`: the best of any number of readings, put side by side by their times; never less than the better one."""
+"""`mend`: the best of any number of readings, aligned by their times; never worse than the best reading."""
 import binascii
 import itertools
 import random
@@ -22,19 +22,19 @@ needs_mending = unittest.skipUnless(has("ribjasper_mend_report"), "lib/ has no r
 
 
 def noisy(stream: bytes, places: range, seed: int, length: int = 60) -> bytes:
-    """A reading that has lost words at these blocks."""
+    """A reading with lost words at these blocks."""
     for block in places:
         stream = with_burst(stream, block, length, seed + block)
     return stream
 
 
 def wrong(packs: bytes, truth: bytes) -> int:
-    """How many packs are not as they should be."""
+    """The number of packs that are wrong."""
     return sum(packs[at : at + PACK] != truth[at : at + PACK] for at in range(0, len(truth), PACK))
 
 
 def is_frame(block: bytes) -> bool:
-    """Whether the check of a block's Q channel is that of its first 80 bits."""
+    """Whether the check of a block's Q channel matches its first 80 bits."""
     frame = int("".join(str(byte >> 6 & 1) for byte in block), 2).to_bytes(12, "big")
     return binascii.crc_hqx(frame[:10], 0) ^ 0xFFFF == int.from_bytes(frame[10:], "big")
 
@@ -88,7 +88,7 @@ class MendTest(MendCase):
         self.assertEqual(self.mended(without(hello(), 700, 774), second), hello_packs())
 
     def test_other_starts_and_forms(self) -> None:
-        """A dump with its lead-in, one from the first sector on, and one that is planar."""
+        """A dump with its lead-in, one from the first sector on, and a planar one."""
         first = noisy(hello(), range(300, 1800, 40), 1)
         late = noisy(hello(), range(320, 1800, 40), 2)[BLOCK * (LEAD_IN + 150) :]
         self.assertEqual(self.mended(first, as_sectors(late)), hello_packs())
@@ -112,8 +112,8 @@ class MendTest(MendCase):
         self.assertEqual(self.mended(first, without(hello(), 700, 774)), hello_packs())
 
     def test_without_any_time(self) -> None:
-        """Readings whose Q says nothing are put side by side as they are, if they are equally long. Where all is zero
-        nobody can tell whether it was read."""
+        """Readings without usable Q are aligned at their beginnings if they have the same length. If everything is
+        zero, nobody can know whether it was read."""
         bare = bytes(byte & 63 for byte in hello()[BLOCK * LEAD_IN :])
         first, second = noisy(bare, range(100, 1700, 40), 1), noisy(bare, range(120, 1700, 40), 2)
         self.assertEqual(self.mended(first, second, status=1), hello_packs())
@@ -124,7 +124,7 @@ class MendTest(MendCase):
         self.assertFalse((self.folder / "none.cdg").exists())
 
     def test_three_readings(self) -> None:
-        """What each pair of three readings has lost, all three have."""
+        """Words that each pair of three readings has lost are found in all three."""
         chance, readings = random.Random(4), []
         for number in range(3):
             stream = noisy(hello(), range(100 + 40 * number, 1800, 120), number)
@@ -228,7 +228,7 @@ class KnownReadingsTest(DiscCase):
         self.assertEqual(self.mended(noise, known.scratched(self.whole, 6), self.whole), self.truth)
 
     def test_idle_beside_noise(self) -> None:
-        """Where the disc has no graphics, noise of another reading does not make any."""
+        """If the disc has no graphics, noise in another reading does not become graphics."""
         disc = known.album(1, 1)
         quiet = known.program(disc, 0, disc.end, 0.002)
         truth = program("convert", "--lead-in", 0, stdin=quiet)
@@ -253,7 +253,7 @@ class KnownReadingsTest(DiscCase):
                 self.assertEqual(out.read_bytes(), self.truth)
 
     def reading(self, chance: random.Random) -> bytes:
-        """A reading with one of the faults that readings have."""
+        """A reading with one of the usual faults."""
         kind = chance.randrange(5)
         if kind == 0:
             return known.scratched(self.whole, chance.randrange(1000), chance.choice((5, 40)), 60)
@@ -323,7 +323,7 @@ class MendedStreamTest(MendCase):
             stream = self.mended(first, second, name=name)
             self.assertIn("the lead-in of 60 blocks is that of reading 1", self.ran.errors)
             self.assertIn(f"block 60 of {self.folder / name} is of the absolute time 00:00:00", self.ran.errors)
-            # What is no part of a whole word, in the last two blocks, is that of a reading; P is never corrected.
+            # Symbols in the last two blocks that belong to no whole word come from a reading; P is never corrected.
             bits = bytes(byte & 0x7F for byte in range(256))
             self.assertEqual(stream[: -2 * BLOCK].translate(bits), self.whole[: -2 * BLOCK].translate(bits))
         planar = self.mended(first, second, name="out.sub")
@@ -348,7 +348,7 @@ class MendedStreamTest(MendCase):
         self.assertLessEqual(max(len(found), counts["one"] + counts["two"]), none - counts["bad"])
 
     def test_frames_are_good_ones(self) -> None:
-        """P and Q of each block are those of a reading whose frame is good there, if one is."""
+        """P and Q of each block come from a reading with a good frame there, if there is one."""
         chance, readings = random.Random(11), []
         for _ in range(3):
             worn = bytearray(self.whole)
@@ -368,7 +368,7 @@ class MendedStreamTest(MendCase):
             self.assertEqual(self.mended(*order, name="out.raw"), stream)
 
     def test_the_order_of_readings_changes_nothing(self) -> None:
-        """Noise and a whole reading: the words that both ends cut are those of the whole one too. Three damaged readings of
+        """Noise and a whole reading: words that both ends cut come from the whole one too. Three damaged readings, of
         which one begins later and one has no lead-in: each order writes the same bytes."""
         chance = random.Random(12)
         noise = bytes(byte & 0xC0 | chance.randrange(64) for byte in self.whole)
@@ -392,8 +392,8 @@ class MendedStreamTest(MendCase):
             self.assertEqual((counts["one"], counts["two"], counts["bad"]), ("0", "0", "0"))
 
     def test_sectors_that_a_drive_doubted(self) -> None:
-        """C2 errors and states of samples are reported, and cost no word: here a perfect reading is marked where the other
-        is scratched."""
+        """C2 errors and states of samples are reported, and do not drop a word: here an error-free reading is marked
+        where the other one is scratched."""
         other, blocks = self.whole, len(self.whole) // BLOCK
         for block in range(700, 760, 2):
             other = with_burst(other, block, 90, block)
@@ -408,7 +408,7 @@ class MendedStreamTest(MendCase):
         self.assertRegex(self.ran.errors, r"reading-1: 1 sectors were doubtful to the drive \(reading-1\.state\)")
 
     def test_a_file_that_becomes_shorter(self) -> None:
-        """Blocks that are read again have to be there still."""
+        """Blocks that are read a second time must still be there."""
         path = self.write("reading.raw", self.whole)
         reading = read_reading(str(path), DumpOptions())
         self.assertEqual(b"".join(content for _, content in reading.blocks(0, 700)), self.whole[: BLOCK * 700])
@@ -417,7 +417,7 @@ class MendedStreamTest(MendCase):
             list(reading.blocks(0, 700))
 
     def test_q_of_a_reading_that_is_left_out(self) -> None:
-        """A reading without graphics gives its Q where the other's is bad."""
+        """A reading without graphics provides its Q where the Q of the other one is bad."""
         bare, other = known.without_rw(self.whole), self.whole
         for block in range(1000, 1100):
             other = with_bad_q(other, block)
@@ -428,7 +428,7 @@ class MendedStreamTest(MendCase):
 @needs_library
 @needs_mending
 class FaultsTest(MendCase):
-    """Dumps of known truth that earlier versions mended wrongly."""
+    """Dumps with known content that earlier versions mended wrongly."""
 
     def setUp(self) -> None:
         super().setUp()
@@ -438,14 +438,14 @@ class FaultsTest(MendCase):
         self.truth = program("convert", "--lead-in", 0, stdin=self.whole)
 
     def with_idle_seconds(self, stream: bytes) -> bytes:
-        """A program whose packs stop for some seconds, as in an instrumental."""
+        """A program without packs for some seconds, as in an instrumental."""
         for first in (600, 1800, 3200):
             stream = self.with_idle(stream, first, first + 700)
         return stream
 
     @staticmethod
     def with_idle(stream: bytes, first: int, end: int) -> bytes:
-        """A program without the packs of the slots from one block up to another."""
+        """A program without the packs of the slots between two blocks."""
         content = bytearray(stream)
         for slot in range(4 * first, 4 * end):
             for place in known.PLACES:
@@ -461,7 +461,7 @@ class FaultsTest(MendCase):
         return bytes(content)
 
     def test_a_perfect_reading_with_idle_seconds(self) -> None:
-        """Scratched idle words are near codewords once in 267; they are no sign that a reading lacks graphics."""
+        """One in 267 scratched idle words is near a codeword; these are no sign that a reading lacks graphics."""
         for scratched in (self.worn(self.whole, 250, 60) for _ in range(3)):
             for readings in ((self.whole, scratched), (scratched, self.whole)):
                 self.assertEqual(self.mended(*readings), self.truth, self.ran.errors)
@@ -470,7 +470,7 @@ class FaultsTest(MendCase):
                 self.assertEqual(self.ran.rows()[place]["lost"], "0")
 
     def test_a_perfect_reading_with_bad_q(self) -> None:
-        """Noise near a codeword does not win over an idle pack whose Q frames are bad."""
+        """Noise near a codeword does not replace an idle pack whose Q frames are bad."""
         quiet = self.with_idle(known.program(self.disc, 0, self.disc.end), 300, 4400)
         truth = program("convert", "--lead-in", 0, stdin=quiet)
         perfect = quiet
@@ -481,7 +481,8 @@ class FaultsTest(MendCase):
         self.assertEqual(self.mended(perfect, noise), truth)
 
     def test_stale_blocks_have_their_own_place(self) -> None:
-        """A hundred blocks of another place, whose Q frames are good, do not take the place where they stand."""
+        """A hundred blocks from another place, with good Q frames, do not replace the blocks at whose place they
+        are."""
         stale = self.whole[: BLOCK * 2000] + self.whole[BLOCK * 700 : BLOCK * 800] + self.whole[BLOCK * 2100 :]
         stale_busy = self.whole[: BLOCK * 2000] + self.whole[BLOCK * 100 : BLOCK * 200] + self.whole[BLOCK * 2100 :]
         for worse in (stale, stale_busy):
@@ -509,7 +510,7 @@ class FaultsTest(MendCase):
         self.assertTrue(2058 <= int(row[0]) <= 2060, row)
         block = int(row[0]) - 60
         self.assertEqual(row[1], f"00:{block // 75:02}:{block % 75:02}")
-        # With the map ddrescue reads just the lost blocks from another dump of the same size.
+        # With the map, ddrescue reads only the lost blocks from another dump of the same size.
         whole = self.write("whole.raw", lead_in + self.whole)
         out = self.folder / "again.raw"
         words = ["ddrescue", "-q", "-b", "96", "-m", str(ddrescue), str(whole), str(out)]
@@ -521,7 +522,7 @@ class FaultsTest(MendCase):
         self.assertEqual(len(stream), len(lead_in + self.whole))
 
     def test_maps_of_dumps_are_read(self) -> None:
-        """What a map says was not read counts for nothing, whatever the dump has there."""
+        """Blocks that a map lists as unread do not count, whatever the dump contains there."""
         bad = self.whole[: BLOCK * 1000] + self.chance.randbytes(BLOCK * 60) + self.whole[BLOCK * 1060 :]
         first, second = self.write("one.raw", bad), self.write("two.raw", self.whole)
         size = len(bad)
@@ -546,7 +547,8 @@ class FaultsTest(MendCase):
             self.assertIn(cause, ran.errors)
 
     def test_every_number_is_true(self) -> None:
-        """Readings that contradict each other: what is reported as lost is what they give and the result has not."""
+        """Readings that contradict each other: a word is reported as lost if a reading has it and the result does
+        not."""
         busy = [n for n in range(len(self.truth) // PACK) if any(self.truth[PACK * n : PACK * (n + 1)])]
         turned = self.chance.sample(busy, 200)
         first, other = bytearray(self.whole), known.pictures(3, 9)
@@ -592,19 +594,19 @@ class FaultsTest(MendCase):
 @needs_library
 @needs_mending
 class PlacingTest(DiscCase):
-    """Readings in which no Q frame is good, or only frames of stale blocks are."""
+    """Readings without a good Q frame, or with good frames only in stale blocks."""
 
     def setUp(self) -> None:
         super().setUp()
         self.bare = without_q(self.whole)
 
     def with_stale(self, stream: bytes, first: int, other: int, count: int) -> bytes:
-        """A stream in which some blocks are those of another moment."""
+        """A stream in which some blocks come from another time."""
         end, stale = BLOCK * (first + count), self.whole[BLOCK * other : BLOCK * (other + count)]
         return stream[: BLOCK * first] + stale + stream[end:]
 
     def test_stale_frames_do_not_place_a_reading(self) -> None:
-        """A reading without Q is as long as the other, and its words agree with it."""
+        """A reading without Q is as long as the other one, and its words agree with it."""
         gap = with_zeros(self.whole, 3000, 3100)
         for first, other, count in ((2000, 777, 3), (2000, 777, 100), (0, 2011, 200), (777, 2222, 400)):
             worse = self.with_stale(self.bare, first, other, count)
@@ -613,7 +615,7 @@ class PlacingTest(DiscCase):
                 self.assertIn("is of the absolute time 00:00:00", self.ran.errors)
 
     def test_a_reading_of_the_same_length_where_nothing_is_shared(self) -> None:
-        """Only the reading without Q has graphics: its place is that of a reading which is as long."""
+        """Only the reading without Q has graphics: it is aligned with a reading of the same length."""
         frames = known.without_rw(self.whole)
         worse = self.with_stale(self.bare, 2000, 777, 100)
         stale = range(4 * 2000 - 8, 4 * 2100)
@@ -624,13 +626,13 @@ class PlacingTest(DiscCase):
                 self.assertEqual(packs[PACK * n : PACK * (n + 1)], self.truth[PACK * n : PACK * (n + 1)], n)
 
     def test_two_stale_runs_with_one_lag(self) -> None:
-        """Blocks between two runs of one lag are not taken along with them."""
+        """Blocks between two stale runs with the same distance keep their place."""
         worse = self.with_stale(self.with_stale(self.bare, 2000, 1963, 20), 2100, 2063, 20)
         gap = with_zeros(self.whole, 2025, 2095)
         self.assertEqual(self.mended(gap, worse), self.truth, self.ran.errors)
 
     def test_stale_blocks_at_the_end(self) -> None:
-        """Blocks without Q behind a stale run have the place of the frames before the run."""
+        """Blocks without Q behind a stale run are placed by the frames before the run."""
         end = len(self.whole) // BLOCK
         worse = self.with_stale(
             self.whole[: BLOCK * (end - 300)] + self.bare[BLOCK * (end - 300) :], end - 400, 311, 100
@@ -639,7 +641,8 @@ class PlacingTest(DiscCase):
         self.assertEqual(self.mended(gap, worse), self.truth, self.ran.errors)
 
     def test_a_reading_in_doubt_is_refused(self) -> None:
-        """Stale frames in a reading without Q that begins and ends elsewhere: nothing says where its other blocks belong."""
+        """Stale frames in a reading without Q that begins and ends elsewhere: the place of its other blocks is
+        unknown."""
         worse = self.with_stale(self.bare[BLOCK * 1000 : BLOCK * 4000], 2000, 777, 100)
         first = with_zeros(self.whole, 4000, 4010)
         out = self.folder / "out.cdg"
@@ -661,7 +664,7 @@ class PlacingTest(DiscCase):
             self.assertEqual(self.mended(self.with_stale(part, 1000, 555, 40), gap), self.truth, self.ran.errors)
 
     def test_a_single_stale_block(self) -> None:
-        """A drive returned a block twice: the second does not count where another reading has the right frame. If all
+        """A drive returned a block twice: the second one does not count if another reading has the right frame. If all
         readings have the same frame of another time, it is on the disc, and its block counts."""
         twice = self.whole[: BLOCK * 1000] + self.whole[BLOCK * 999 : BLOCK * 1000] + self.whole[BLOCK * 1001 :]
         gap = with_zeros(self.whole, 3000, 3010)
@@ -675,7 +678,7 @@ class PlacingTest(DiscCase):
         return self.whole[BLOCK * number : BLOCK * (number + 1)]
 
     def test_a_missing_block_in_a_reading_without_q(self) -> None:
-        """What is before the missing block and what is after it have places of their own, but for some blocks."""
+        """The parts before and after the missing block are placed separately, except for some blocks."""
         bare = self.bare[: BLOCK * 2222] + self.bare[BLOCK * 2223 :]
         gap = with_zeros(with_zeros(self.whole, 1000, 1100), 3000, 3100)
         for readings in ((bare, gap), (gap, bare)):
@@ -683,7 +686,8 @@ class PlacingTest(DiscCase):
         self.assertRegex(self.ran.errors, r"\d\d blocks are omitted")
 
     def test_stale_frames_alone_say_no_time(self) -> None:
-        """Two readings without Q, stale blocks in one: they stay block beside block, and their time is not known."""
+        """Two readings without Q, one with stale blocks: they stay aligned block by block, and their time is
+        unknown."""
         worse = self.with_stale(self.bare, 2000, 1611, 100)
         gap = with_zeros(self.bare, 3000, 3100)
         self.assertEqual(self.mended(gap, worse), self.truth, self.ran.errors)

@@ -1,4 +1,4 @@
-"""A class and a public function have a name of their own in all of the desk: no name has two meanings."""
+"""Classes and public functions have unique names in all of the desk: no name has two meanings."""
 
 import ast
 import collections
@@ -6,7 +6,7 @@ import unittest
 from pathlib import Path
 
 TOP = Path(__file__).resolve().parent.parent / "ribjasper"
-# What each module of a command has.
+# The names that every module of a command has.
 OF_COMMANDS = {"add_parser", "run"}
 
 

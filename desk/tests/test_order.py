@@ -1,5 +1,5 @@
-"""Rows come in the order of singing, words are lit at their times and no two lines are mixed, in songs as chance makes
-them and in those that went wrong once; decoded frame by frame."""
+"""Rows appear in the order of singing, words are lit at their times and no two lines are mixed, in random songs and in
+songs that once went wrong; decoded frame by frame."""
 import random
 import unittest
 from dataclasses import replace
@@ -10,13 +10,13 @@ from random_songs import BLOCKS, PAUSE, Watch, random_song, spelled, watch
 from ribjasper.drawing.styles import read_style
 from ribjasper.songs.song_script import Wishes
 
-# Five lines, a rest and four more: six and eight once stood around five.
+# Five lines, a rest and four more: rows six and eight once appeared around row five.
 SHORT_PAGE = "".join(
     f"[00:{second:02}.00]{word}\n"
     for second, word in zip((8, 12, 16, 20, 24, 28, 36, 40, 44, 48, 52),
                             ("one", "two", "three", "four", "five", "", "six", "seven", "eight", "nine", ""))
 )  # fmt: skip
-# A row stands where one is sung two lines before, and each column of the lines between them is lit by itself.
+# A row is drawn while the row two lines before is sung, and each column of the lines between them is lit by itself.
 SWEPT = """[00:08.59]<00:08.59>20. <00:08.79>is <00:09.05>falling <00:09.56>hills <00:10.11>knows <00:10.59>you <00:10.95>summer <00:11.44>
 [00:11.94]<00:11.94>21. <00:12.35>paper <00:12.54>water <00:12.84>never <00:13.15>
 [00:13.15]<00:13.15>22. <00:13.43>falling <00:13.71>tomorrow <00:14.25>we <00:14.47>
@@ -24,13 +24,13 @@ SWEPT = """[00:08.59]<00:08.59>20. <00:08.79>is <00:09.05>falling <00:09.56>hill
 [00:20.00]<00:20.00>short <00:21.00>
 [00:22.00]<00:22.00>and <00:23.00>
 """
-# Four rows are to be drawn while each column of three of them is lit by itself: two columns at a time are lit together.
+# Four rows must be drawn while each column of three of them is lit by itself: two columns at a time are lit together.
 DENSE = """[00:09.85]<00:09.85>4. <00:10.28>never <00:10.69>calling <00:11.01>paper <00:11.62>home <00:12.22>and <00:12.64>
 [00:13.84]<00:13.84>5. <00:14.37>morning <00:14.80>
 [00:14.90]<00:14.90>6. <00:15.27>morning <00:15.67>evening <00:16.09>heart <00:16.29>evening <00:16.59>tomorrow <00:16.88>slowly <00:17.19>
 [00:17.19]<00:17.19>7. <00:17.37>light <00:17.63>under <00:18.09>over <00:18.65>wide <00:18.93>
 """
-# In the middle of its page the last row would stand where the line before it was sung.
+# In the middle of its page, the last row would be at the place of the row before it.
 SHORT_AND_SOON = """[00:08.87]<00:08.87>17. <00:09.21>never <00:09.45>water <00:09.78>
 [00:09.88]<00:09.88>18. <00:10.28>calling <00:10.63>go <00:11.06>of <00:11.60>the <00:11.86>
 [00:12.36]<00:12.36>19. <00:12.95>go <00:13.15>summer <00:13.77>tomorrow <00:14.35>
@@ -39,7 +39,7 @@ SHORT_AND_SOON = """[00:08.87]<00:08.87>17. <00:09.21>never <00:09.45>water <00:
 
 
 def paged(gap: float, lines: int) -> str:
-    """Lines of two seconds each, and a gap behind the fourth, where a page ends."""
+    """Lines of two seconds each, with a gap after the fourth, where a page ends."""
     rows, time = [], 10.0
     for number in range(1, lines + 1):
         words = f"Number {number} of all".split()
@@ -77,7 +77,8 @@ class OrderTest(FolderTest):
             self.assertFalse(self.watched(text, sweep=sweep, size=size).made.lateness.rows())
 
     def test_a_page_that_follows_soon(self) -> None:
-        """A page goes as a whole if that leaves time for the next one, and row by row otherwise, which is reported."""
+        """A page disappears as a whole if that leaves time for the next page, and otherwise row by row, which is
+        reported."""
         for gap, is_whole in ((1.0, True), (0.6, False), (0.3, False), (0.0, False)):
             for lines in (8, 6) if gap else (8,):
                 with self.subTest(gap=gap, lines=lines):
@@ -87,7 +88,7 @@ class OrderTest(FolderTest):
                     self.assertEqual("the page of line 5 follows too soon to appear as a whole" in notes, not is_whole)
                     last, first = seen.rows[3], seen.rows[4]
                     self.assertEqual(first.seen >= PAUSE + BLOCKS * last.words[-1][0], is_whole)
-                    # The first page is gone before the second is sung to its end.
+                    # The first page has disappeared before the second is sung to its end.
                     gone = [seen.gone[row.text] for row in seen.rows[:4]]
                     self.assertLess(max(gone), PAUSE + BLOCKS * seen.rows[-1].end)
 
@@ -100,7 +101,7 @@ class OrderTest(FolderTest):
                 self.assertGreater(len(seen.rows), 3)
 
     def test_the_watch_sees_what_is_wrong(self) -> None:
-        """The same song with its later lines drawn as early as there is room, and out of their order."""
+        """The same song, with its later lines drawn as early as possible and out of order."""
         from unittest import mock
 
         from ribjasper.songs import timeline

@@ -1,5 +1,6 @@
-"""The desk on Windows and macOS, as far as Linux can show it: what these systems lack is taken away from Python, and
-what they do otherwise is done so. Commands then write the same files, and names and places are those of the system."""
+"""The desk on Windows and macOS, as far as Linux can show it: functions that these systems lack are removed from
+Python, and others are changed to behave as they do there. Commands then write the same files, with the names and
+places of the system."""
 import os
 import subprocess
 import sys
@@ -10,7 +11,7 @@ from fixtures import LEAD_IN, FolderTest, PROGRAM, TOP, hello, needs_library, wi
 
 from ribjasper.common import library
 
-# Taken away after the modules of Python are loaded that use it themselves.
+# These are removed after the modules of Python that use them are loaded.
 LACKS = """
 import concurrent.futures.process, ctypes.util, multiprocessing.spawn, multiprocessing.popen_spawn_posix, os, shutil, signal, \
     socket, subprocess, sys, tempfile, threading, types
@@ -44,8 +45,8 @@ class OtherSystemsTest(FolderTest):
         )
 
     def both(self, *words: str, status: int = 0, again: bool = False) -> bytes:
-        """Runs a command here and on the system that lacks things; `OUT` is the name of its output, which has to be the
-        same. The table that it prints has to be the same too, which is returned."""
+        """Runs a command here and on the system that lacks functions, and compares its output, which is named `OUT`,
+        and its table. Returns the table."""
         plain = "import sys\nfrom ribjasper.main import main\nsys.exit(main(sys.argv[1:]))"
         tables, outputs = [], []
         for code, out in ((plain, "here.cdg"), (RUN, "there.cdg")):
@@ -67,7 +68,7 @@ class OtherSystemsTest(FolderTest):
         self.both("sums", "a.raw", "b.raw", "--dat", "OUT")
         self.both("damage", *lead_in, "b.raw", status=1)
         self.both("mend", *lead_in, "a.raw", "b.raw", "-o", "OUT")
-        # A second run replaces what the first wrote.
+        # A second run overwrites the output of the first.
         self.both("mend", *lead_in, "b.raw", "a.raw", "-o", "OUT", again=True)
         self.both("convert", *lead_in, "a.raw", "-o", "OUT")
         self.assertEqual(
@@ -77,12 +78,12 @@ class OtherSystemsTest(FolderTest):
 
     @needs_library
     def test_report_in_two_processes(self) -> None:
-        """Processes are started anew, since there is no fork."""
+        """Processes are spawned, because there is no fork."""
         dumps = self.folder / "dumps"
         dumps.mkdir()
         (dumps / "a.raw").write_bytes(hello())
         (dumps / "b.raw").write_bytes(with_burst(hello(), 400, 500))
-        # Python itself starts processes otherwise on Windows, which cannot be done here.
+        # Python itself starts processes in another way on Windows, which this test cannot do.
         code = RUN.replace('"win32"', '"darwin"')
         ran = self.python(code, "report", "dumps", "-o", "out", "--jobs", "2", "--no-pictures", "--quiet")
         self.assertEqual(ran.returncode, 0, ran.stderr.decode())
@@ -90,7 +91,7 @@ class OtherSystemsTest(FolderTest):
         self.assertEqual([line.split("\t")[0] for line in table[1:]], ["a.raw", "b.raw"])
 
     def test_an_interrupt_waits_until_a_file_has_its_name(self) -> None:
-        """Signals cannot be held back there: they are noted, and come right after."""
+        """Signals cannot be blocked there: they are recorded, and handled right afterwards."""
         code = (
             LACKS
             + """
@@ -119,7 +120,7 @@ print(made, signal.getsignal(signal.SIGINT) is signal.default_int_handler)
             self.assertEqual(ran.stdout.decode().strip(), names, ran.stderr.decode())
 
     def test_names_in_other_letters_are_one_file(self) -> None:
-        """On Windows and macOS two new outputs may not differ in large and small letters only."""
+        """On Windows and macOS, two new outputs may not differ only in upper and lower case."""
         code = """
 import sys, tempfile
 from ribjasper.common.targets import Target

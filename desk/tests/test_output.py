@@ -1,4 +1,4 @@
-"""How the desk writes: what is refused, what is written to as it stands, and that all outputs appear or none."""
+"""How the desk writes: what is refused, what is written in place, and that either all outputs appear or none."""
 import errno
 import os
 import signal
@@ -71,7 +71,7 @@ class OutputTest(FolderTest):
         self.refused("is an input", [path, other], [(self.path("new"), ANY), (path, ANY)])
 
     def test_an_output_that_is_read_meanwhile(self) -> None:
-        """Whoever opens it to read, and by whichever name; nothing appears."""
+        """Whoever opens it for reading, and by whichever name, sees nothing."""
         path, new = self.write("in", "dump"), self.path("new")
         os.link(path, self.path("hard"))
         for name in ("in", "hard"):
@@ -86,7 +86,7 @@ class OutputTest(FolderTest):
         with self.assertRaises(Failure), Outputs([], [(path, ANY)]) as outputs:
             path.read_text()
             outputs.open(path)
-        # What is read before and behind counts for nothing.
+        # Bytes read before and after it do not count.
         path.read_text()
         with Outputs([], [(path, ANY)]) as outputs:
             outputs.write(path, b"other")
@@ -150,7 +150,7 @@ class OutputTest(FolderTest):
             path.unlink()
             for again in (content, content + content, content):
                 write_file(path, again, kind)
-            # A change by hand, and one that leaves size and time as they were.
+            # A manual change, and one that keeps the size and the time.
             for other in (content * 3, content[:-1] + bytes([content[-1] ^ 1])):
                 times = os.stat(path)
                 path.write_bytes(other)
@@ -260,7 +260,7 @@ class OutputTest(FolderTest):
     def test_a_disk(self) -> None:
         node = self.path("disk")
         try:
-            # A number that no driver has.
+            # A device number without a driver.
             os.mknod(node, 0o666 | stat.S_IFBLK, os.makedev(250, 250))
         except PermissionError:
             self.skipTest("no device can be made here")
@@ -305,7 +305,7 @@ class OutputTest(FolderTest):
         self.assertEqual((self.names(), old.read_bytes(), new.read_bytes()), (["new", "old"], b"content", b"content"))
 
     def test_what_was_put_is_taken_back(self) -> None:
-        """The third file of four cannot take its name."""
+        """The third of four files cannot be renamed."""
         one, two = self.write("1", "one"), self.path("2")
         three, four = self.write("3", "three"), self.write("4", "four")
         three_stat = three.stat()
@@ -351,7 +351,7 @@ class OutputTest(FolderTest):
         self.assertEqual(os.listdir(path), [])
 
     def test_names_that_the_file_system_takes_for_one(self) -> None:
-        """As where large and small letters are not told apart: the second name is there once the first is put."""
+        """As on a file system that ignores case: the second name exists as soon as the first file is written."""
         one, two = self.path("a"), self.path("A")
         real = beside.give_name
 
@@ -400,8 +400,8 @@ class OutputTest(FolderTest):
         self.assertEqual((os.listdir(mount), old.read_bytes()), (["old"], b"before"))
 
     def test_signals(self) -> None:
-        """A process that is stopped while it writes leaves nothing, whatever stops it, and a user's program that is
-        started with a signal ignored goes on."""
+        """A process that is stopped while it writes leaves nothing behind, whichever signal stops it; and a program
+        that was started with a signal ignored continues."""
         code = (
             "import sys, time\nfrom ribjasper.common import kinds, output\nfrom ribjasper.main import stopping\n"
             "with stopping(), output.Outputs([], [(sys.argv[1], kinds.CDG)]) as outputs:\n"

@@ -14,13 +14,13 @@ import ribjasper
 from ribjasper.common import library
 
 VERSION = (TOP / "VERSION").read_text().strip()
-# What the library says between two releases, and what pip does.
+# The versions of the library between two releases, and how pip writes them.
 NUMBER, OF_PIP = VERSION.removesuffix("-dev"), VERSION.replace("-dev", ".dev0")
 INSTALL = TOP / "tools" / "build" / "install.sh"
 
 
 def files_below(folder: Path) -> list[str]:
-    """The modules of a package and what they read."""
+    """The modules of a package, and the files that they read."""
     return sorted(
         str(path.relative_to(folder))
         for path in folder.glob("**/*")
@@ -30,7 +30,7 @@ def files_below(folder: Path) -> list[str]:
 
 class PackageTest(FolderTest):
     def run_well(self, *words: str | Path, **environment: str) -> str:
-        """What a program prints, which has to end well and say nothing on standard error."""
+        """The output of a program, which must succeed and print nothing on standard error."""
         clean = {name: value for name, value in os.environ.items() if not name.startswith(("PYTHON", "RIBJASPER"))}
         ran = subprocess.run(
             words,
@@ -43,7 +43,7 @@ class PackageTest(FolderTest):
         return ran.stdout
 
     def check(self, program: Path) -> None:
-        """Whether an installed desk works, far from the checkout."""
+        """Checks that an installed desk works, far from the checkout."""
         self.assertIn("    identify ", self.run_well(program, "--help"))
         if has("ribjasper_version"):
             built = next(library.candidates())
@@ -51,7 +51,7 @@ class PackageTest(FolderTest):
             self.assertEqual(output, f"ribjasper-desk {NUMBER}\n")
 
     def room(self) -> Path:
-        """An empty environment of Python."""
+        """An empty Python environment."""
         room = self.folder / "venv"
         if subprocess.run([sys.executable, "-m", "venv", room], capture_output=True).returncode:
             self.skipTest("python3-venv is not installed")
@@ -72,7 +72,7 @@ class PackageTest(FolderTest):
 
     @unittest.skipUnless(build_wheel.is_built(build_wheel.HERE), "the library or the program is not built")
     def test_pip_with_the_library_and_the_program(self) -> None:
-        """What pip installs from a checkout with both works with nothing else, and its parts find each other."""
+        """A package that pip installs from a checkout with both needs nothing else, and its parts find each other."""
         room = self.room()
         self.pip(room, "install", "-q", "--no-index", TOP / "desk")
         desk, program = room / "bin" / "ribjasper-desk", room / "bin" / "ribjasper"
@@ -131,7 +131,7 @@ class PackageTest(FolderTest):
         self.assertEqual(extras, {"Pillow", "tqdm", "distributed", "mido", "chardet", "numpy", "pyphen"})
 
     def test_source_archive(self) -> None:
-        """The archive of the sources makes the same package, with no checkout around it."""
+        """The source archive builds the same package without a checkout around it."""
         code = "import sys, build_wheel; print(getattr(build_wheel, sys.argv[1])(sys.argv[2], {'platform': 'any'}))"
         whole = self.run_well(
             sys.executable, "-c", code, "build_wheel", self.folder, PYTHONPATH=str(TOP / "desk")
@@ -151,13 +151,13 @@ class PackageTest(FolderTest):
         self.assertEqual(os.readlink(link), "../share/ribjasper-desk/ribjasper-desk")
         self.check(link)
         installed = files_below(self.folder / "usr/share/ribjasper-desk/ribjasper")
-        # The player for web pages comes along, if it is built.
+        # The player for web pages is included if it is built.
         built = {name for name in installed if name.startswith("web/")}
         self.assertEqual([name for name in installed if name not in built], files_below(TOP / "desk/ribjasper"))
         self.assertEqual("web/ribjasper.mjs" in built, (TOP / "lib" / "web" / "ribjasper.mjs").exists())
 
     def test_the_library_below_the_same_prefix(self) -> None:
-        """What `make install PREFIX=..` puts into lib/ is found, where the system does not look."""
+        """Files that `make install PREFIX=..` installs in lib/ are found, although the system does not search there."""
         subprocess.run([INSTALL, "", self.folder, self.folder / "lib", "ribjasper-desk"], check=True)
         (self.folder / "lib").mkdir()
         (self.folder / "lib" / library.NAME).write_bytes(b"no library")

@@ -1,5 +1,5 @@
-"""Albums of finished pairs and lyrics: each track begins clean from any screen, and the graphics of a pair keep their
-time to its sound; and what a list may ask of the sound."""
+"""Albums of finished pairs and lyrics: each track begins clean from any screen, and the graphics of a pair stay in time
+with its sound; and what a list may request for the sound."""
 import array
 import math
 import os
@@ -25,7 +25,7 @@ from ribjasper.songs.pairs import LEAD
 from test_album import random_packs
 
 LRC = "[ti:Song]\n[ar:Singer]\n[00:06.00]<00:06.00>First <00:06.50>line<00:07.50>\n[00:09.00]<00:09.00>Second <00:10.00>\n"
-# What a list says of a track, one line each.
+# The lines of a list for one track.
 Lines = list[str]
 
 
@@ -46,8 +46,8 @@ def tiles(dice: random.Random, count: int) -> list[bytes]:
 
 
 def usual(dice: random.Random, seconds: int) -> bytes:
-    """Graphics as most programs write them: the memory preset sixteen times, border, colours, and tiles now and
-    then."""
+    """Graphics as most programs write them: the memory preset sixteen times, the border, the colours, and tiles from
+    time to time."""
     packs = [pack(1, 5, number) for number in range(16)] + [pack(2, 3), *colours(dice)]
     while len(packs) < 300 * seconds:
         packs += dice.choice(([bytes(24)] * dice.randint(1, 40), tiles(dice, dice.randint(1, 60)), colours(dice)))
@@ -55,8 +55,7 @@ def usual(dice: random.Random, seconds: int) -> bytes:
 
 
 def hasty(dice: random.Random, seconds: int) -> bytes:
-    """Graphics whose first packs draw at once, with scrolls, and with bits of P and Q in each byte, as some rips
-    have."""
+    """Graphics that draw in their first packs, with scrolls, and with P and Q bits in each byte, as in some rips."""
     packs = [*colours(dice), *tiles(dice, 200)]
     while len(packs) < 300 * seconds:
         packs += [pack(20, 2, dice.randrange(6), dice.randrange(12)), *tiles(dice, 50), *[bytes(24)] * 30]
@@ -99,7 +98,7 @@ class PairsTest(FolderTest):
         return ran
 
     def starts(self) -> list[int]:
-        """Where the indices 01 are, by the sheet of the stream."""
+        """The places of the indexes 01, from the sheet of the stream."""
         found = []
         for line in (self.folder / "disc-sheet.cue").read_text().splitlines():
             if line.strip().startswith("INDEX 01"):
@@ -141,14 +140,14 @@ class PairsTest(FolderTest):
             cut, _ = packs_of_blocks(program[BLOCK * start :], RAW, 0)
             with Player() as through, Player() as skipped, Player() as alone:
                 through.draw(whole[: PACK * 4 * start])
-                # Another track was left with its picture moved.
+                # The previous track ended with a scrolled picture.
                 skipped.draw(random_packs(number) + pack(20, 1, 3, 7))
                 done, drawn, seen = 0, 0, set[bytes]()
-                # From a fifth of a second on, when the first tiles may already be there.
+                # From a fifth of a second on, when the first tiles may already be drawn.
                 for until in range(60, 4 * (end - start) - 8, 52):
                     through.draw(whole[PACK * (4 * start + done) : PACK * (4 * start + until)])
                     skipped.draw(cut[PACK * done : PACK * until])
-                    # What is read from a block on begins with the pack seven places later.
+                    # A reader that starts at a block gets the packs from the seventh place after it.
                     now = until + 7 - 4 * later
                     alone.draw(bytes(byte & 63 for byte in content[PACK * drawn : PACK * now]))
                     done, drawn = until, now
@@ -227,7 +226,7 @@ class PairsTest(FolderTest):
             self.assertIn(why, ran.errors)
         ran = self.album(lyrics, status=3, head='catalogue = "4006381333930"\n')
         self.assertIn("whose check digit is wrong: 4006381333931 has the right one", ran.errors)
-        # A directory in place of a song is no fault of the desk.
+        # A folder instead of a song is not a bug of the desk.
         os.mkdir(self.folder / "folder")
         for words in (("lyrics", "folder", "-o", "a.script"), ("pair", "folder", "--audio", "one.wav", "-o", "a"),
                       ("look", "folder", "--audio", "one.wav", "-o", "a.html"), ("album", "folder", "-o", "a")):  # fmt: skip
@@ -238,7 +237,7 @@ class PairsTest(FolderTest):
         self.assertIn("folder: is a directory", ran.errors)
 
     def test_check_digits(self) -> None:
-        # Numbers of printed articles.
+        # The numbers of printed articles.
         for number in ("4006381333931", "9783161484100", "0075678164828"):
             self.assertEqual(check_digit(number[:12]), number[12])
 
@@ -252,7 +251,7 @@ class PairsTest(FolderTest):
         self.assertFalse(any(sound[: 4 * 44_100 * 4]))
         part = samples[4 * 110_250 : 4 * 44_100 * 13]
         self.assertEqual(sound[4 * 44_100 * 4 :][: len(part)], part)
-        # The first word is sung at 6 s of the file: at 7.5 s of the track.
+        # The first word is sung at 6 s of the file, which is 7.5 s of the track.
         script = (self.folder / "disc-01.script").read_text()
         shows = [line.split()[1] for line in script.splitlines() if line.startswith("show")]
         self.assertIn("00:09:37", shows)  # with the pause of two seconds, and the nearest block
@@ -270,7 +269,7 @@ class PairsTest(FolderTest):
         peaks = [max(abs(one) for one in samples[2 * 4410 * at : 2 * 4410 * (at + 1)]) for at in range(140)]
         self.assertLess(peaks[0], peaks[5])
         self.assertLess(peaks[139], peaks[125])
-        # What is heard is not moved: the clicks of each second are where they were.
+        # The sound is not moved: the clicks at each second are where they were.
         before = struct.unpack(f"<{14 * 44_100 * 2}h", quiet.read_bytes()[44:])
         for second in range(2, 11):
             window = range(second * 44_100 - 300, second * 44_100 + 300)

@@ -1,4 +1,5 @@
-"""`picture`: an image of the right size and few colours comes back pixel for pixel; others come near, in few packs."""
+"""`picture`: an image of the right size with few colours is drawn pixel by pixel; others are approximated, in few
+packs."""
 import unittest
 from pathlib import Path
 from typing import Callable
@@ -30,7 +31,7 @@ class PictureTest(FolderTest):
         return self.folder / name
 
     def shown(self, script: str, *before: str) -> Screen:
-        """What stands when a script's lines were drawn, with nothing before them but these lines."""
+        """The screen after the lines of a script were drawn, with only these lines before them."""
         path = self.write("all.script", "".join(f"{line}\n" for line in before) + script + "show 00:19:00 00:19:00\n")
         stream = author(self.write("a.cue", SHEET), path, "00:20:00", self.folder / "a.raw")
         return screen(stream, 19 * 75)
@@ -108,7 +109,7 @@ class PictureTest(FolderTest):
         image = Image.new("RGB", (192, 288), (255, 0, 0))
         image.paste((0, 0, 255), (0, 0, 192, 144))
         exif = Image.Exif()
-        # 8: what is the top is at the left, so it is shown turned to the left.
+        # 8: the top of the image is at its left side, so it is shown rotated to the left.
         exif[0x0112] = 8
         image.save(self.folder / "a.png", exif=exif)
         raster = whole(self.folder / "a.png")
@@ -145,7 +146,7 @@ class PictureTest(FolderTest):
 
     def test_the_border(self) -> None:
         def noisy(x: int, y: int) -> tuple[int, int, int]:
-            """A dark photo, no two neighbours of whose edge are equal, with green in places."""
+            """A dark photo with green parts, in which no two neighbouring pixels of the edge are equal."""
             if 60 < x < 200 and 60 < y < 150:
                 return 200, 200, 200
             return (0, 255, 0) if (x * 7 + y * 11) % 13 == 0 else (20 + (x * 5 + y * 3) % 48, 24 + (x + y * 7) % 40, 60)

@@ -1,4 +1,4 @@
-"""Pure tests of the parts of a dump whose times go on."""
+"""Unit tests of the pieces of a dump, whose times are continuous."""
 import unittest
 from unittest import mock
 
@@ -15,8 +15,7 @@ class PiecesTest(unittest.TestCase):
         self.assertEqual(lead_in_of(survey), 100)
 
     def test_pieces_go_where_their_times_say(self) -> None:
-        """A part that stands before the one that comes first on the disc, in one layer; stale blocks in one of their
-        own."""
+        """A piece that is placed before the first one on the disc, in one layer; stale blocks in another layer."""
         swapped = [Stretch(0, 99, 500), Stretch(100, 299, 0)]
         self.assertEqual(layers_of(framed_pieces(swapped)), [[Piece(0, 100, 500, 100), Piece(100, 300, -100, 200)]])
         stale = [Stretch(0, 999, 0), Stretch(1000, 1099, 200), Stretch(1100, 1999, 1100)]

@@ -1,4 +1,4 @@
-"""`plan`: rows for all pictures, those that are late, refusals that name the file, the chart, and texts in Latin-1."""
+"""`plan`: rows for all pictures, late pictures, refusals that name the file, the chart, and texts in Latin-1."""
 import subprocess
 import unittest
 from pathlib import Path

@@ -1,5 +1,5 @@
-"""`q-fix`: what can stand in a block alone is filled in, what cannot is left; changed frames of copy protection; P and
-order."""
+"""`q-fix`: a frame is restored if only one frame can be at its block, and otherwise left; changed frames of copy
+protection; P, and the order of blocks."""
 import random
 import unittest
 from typing import Callable
@@ -25,7 +25,7 @@ def in_sectors(stream: bytes) -> bytes:
 
 
 def spoiled(stream: bytes, block: int, bits: int = 1 << 3) -> bytes:
-    """A stream in which bits of a block's Q frame are turned."""
+    """A stream in which some bits of a block's Q frame are flipped."""
     frame = int.from_bytes(known.planar(stream[BLOCK * block : BLOCK * (block + 1)])[12:24], "big") ^ bits
     return with_frame(stream, block, frame.to_bytes(12, "big"))
 
@@ -61,7 +61,7 @@ class QFixTest(FolderTest):
             self.assertEqual([int(row["block"]) for row in rows], [500, 501, 502, 700, *range(900, 910), 1360, 2000])
             wanted = form(self.whole)
             if form is bytes:
-                # Of blocks that were given up Q alone comes back.
+                # For blocks that the drive gave up, only Q is restored.
                 for block in range(900, 910):
                     wanted = (
                         wanted[: BLOCK * block]
@@ -72,7 +72,7 @@ class QFixTest(FolderTest):
             self.assertEqual(len(copy), len(wanted))
 
     def test_a_bad_code_becomes_a_code(self) -> None:
-        """A frame with the recording code of its track, of which a bit is wrong, is that frame again."""
+        """A frame with the recording code of its track and one wrong bit is restored to that frame."""
         block = next(at for at in range(300, 600) if self.disc.frame(150 + at) != self.disc.program_frame(150 + at))
         copy, rows = self.fixed(spoiled(self.whole, block))
         self.assertEqual(copy, self.whole)
@@ -93,7 +93,7 @@ class QFixTest(FolderTest):
         self.assertIn("jumps", rows[0]["what"])
 
     def protected(self) -> tuple[bytes, dict[int, bytes]]:
-        """A dump with eight pairs of changed frames: the times are other by a bit or two, and the checks too."""
+        """A dump with eight pairs of changed frames: one or two bits of the times differ, and the checks too."""
         stream, changed = self.whole, {}
         for pair in range(8):
             for block in (400 + 60 * pair, 405 + 60 * pair):
@@ -120,7 +120,7 @@ class QFixTest(FolderTest):
         self.assertEqual(content[4:18], known.time(first) + b"\1" + changed[first][:10])
 
     def spoil_others(self, stream: bytes, but: set[int], count: int, chance: random.Random) -> tuple[bytes, list[int]]:
-        """A stream in which so many other frames are damaged."""
+        """A stream in which `count` other frames are damaged."""
         parts = known.split(stream)
         others = chance.sample([block for block in range(1, len(parts) - 1) if block not in but], count)
         for block in others:
@@ -130,7 +130,7 @@ class QFixTest(FolderTest):
         return b"".join(parts), others
 
     def test_copy_protection_among_other_bad_frames(self) -> None:
-        """Eight pairs stay, whatever else is bad, and the lists have them."""
+        """The eight pairs are unchanged, whatever else is bad, and the lists contain them."""
         self.disc = known.album(2, 2)
         whole = program(self.disc, 150, self.disc.end, 0)
         for seed, count in enumerate((0, 5, 50, 500) * 6):
@@ -160,7 +160,7 @@ class QFixTest(FolderTest):
             own = [frames[block] for block in sorted(frames)]
             self.assertEqual(sbi.read_bytes(), b"SBI\0" + b"".join(at + b"\1" + it[:10] for at, it in zip(times, own)))
             self.assertEqual(lsd.read_bytes(), b"".join(at + it for at, it in zip(times, own)))
-            # All else is filled in or listed as left.
+            # All other frames are restored or listed as left.
             changed = [
                 block
                 for block in range(len(copy) // BLOCK)
@@ -173,7 +173,7 @@ class QFixTest(FolderTest):
                 self.assertIn(frame, (self.disc.frame(150 + block), self.disc.program_frame(150 + block)))
 
     def test_frames_of_a_protected_disc_as_they_were_published(self) -> None:
-        """The frames of 03:08:05 and 03:08:10, of a disc of one data track."""
+        """The frames at 03:08:05 and 03:08:10 of a disc with one data track."""
         self.disc = Disc([Track(1, 150, 0, control=4)], 150 + 75 * 60 * 4)
         stream = program(self.disc, 150, self.disc.end, 0)
         published = {14105: "410101070605002308053839", 14110: "4101010306110003089 05da0".replace(" ", "")}
@@ -185,7 +185,7 @@ class QFixTest(FolderTest):
         self.assertEqual([row["time"] for row in rows[1:]], ["03:08:05", "03:08:10"])
 
     def test_in_doubt_a_frame_stays(self) -> None:
-        """A changed frame whose partner was damaged, and a pair with one bit wrong in the times and right checks."""
+        """A changed frame whose partner was damaged, and a pair with one wrong bit in the times and right checks."""
         right = [self.disc.program_frame(150 + block) for block in (400, 900, 905)]
         one_bit = [it[:9] + bytes([it[9] ^ 4]) + it[10:] for it in right]
         stream = with_frame(self.whole, 400, known.libcrypt(right[0], 1))
@@ -217,8 +217,8 @@ class QFixTest(FolderTest):
             self.assertNotIn("\nchanged\t", ran.out)
 
     def test_frames_with_a_regular_pattern(self) -> None:
-        """Frames that all differ in the same bits, and good frames that all tell the same wrong distance, stay and are
-        listed."""
+        """Frames that all differ in the same bits, and good frames that all have the same wrong distance, are unchanged
+        and listed."""
         stream, blocks = self.whole, [300 + 131 * k for k in range(6)]
         for block in blocks:
             stream = spoiled(stream, block, 0b1011 << 40)
@@ -250,7 +250,7 @@ class QFixTest(FolderTest):
         self.assertIn("track 03 index 04 comes behind track 03 index 01", rows[0]["what"])
 
     def test_p(self) -> None:
-        """P is set through the pause and falls with index 01."""
+        """P is 1 during the pause, and 0 from index 01 on."""
         parts = known.split(self.whole)
         for block in range(75 * 18, 75 * 20):
             parts[block] = bytes(byte | 0x80 for byte in parts[block])

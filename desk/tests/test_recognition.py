@@ -1,4 +1,5 @@
-"""Files in each other's places: the refusal says what a file is and what to do, and no other refusal changes."""
+"""Files at the places of other files: the refusal says what a file is and what to do, and other refusals are the
+same."""
 import unittest
 
 from fixtures import HELLO, FolderTest, Word, desk, needs_plan
@@ -72,7 +73,7 @@ class RefusalTest(FolderTest):
         self.assertIn("no such file", self.refused("album", self.folder / "none.toml", "-o", self.folder / "disc"))
 
     def test_unknown_forms(self) -> None:
-        """Each refusal of a form lists all of them."""
+        """The refusal of an unknown form lists all forms."""
         dump = self.write("a.raw", bytes(960))
         calls: tuple[tuple[Word, ...], ...] = (
             ("identify", dump, "--form", "blah"),

@@ -1,4 +1,4 @@
-"""`report`: a row for every file, whatever it is; a run that was killed is gone on with; a cluster tells the same."""
+"""`report`: a row for every file of any kind; a killed run can be resumed; a cluster writes the same report."""
 import contextlib
 import html.parser
 import json
@@ -24,7 +24,7 @@ from ribjasper.dumps.examine import examine
 
 
 class Links(html.parser.HTMLParser):
-    """What a page refers to."""
+    """The links of a page."""
 
     def __init__(self, page: Path):
         super().__init__()
@@ -36,7 +36,7 @@ class Links(html.parser.HTMLParser):
 
 
 def dumps(folder: Path, count: int) -> None:
-    """A folder of dumps of thirteen kinds over and over, each with damage of its own."""
+    """A folder of dumps of thirteen kinds in turn, each with its own damage."""
     packs = hello_packs() + bytes(-len(hello_packs()) % BLOCK)
     kinds: list[Callable[[int], bytes]] = [
         lambda seed: hello(),
@@ -172,7 +172,7 @@ class ReportTest(FolderTest):
         running.wait()
         done = journal.read_bytes().count(b"\n")
         self.assertLess(done, 50, "it had ended before it was killed")
-        # The line that was being written is cut off.
+        # The last line, which was being written, is cut off.
         journal.write_bytes(journal.read_bytes()[:-7])
         ran = self.report("--no-pictures")
         read, _, rest = ran.errors.partition(": ")[2].partition(" files read, ")
@@ -233,7 +233,7 @@ class ReportTest(FolderTest):
 
     @needs_pillow
     def test_places_are_in_a_file_of_their_own(self) -> None:
-        """A dump with more places than a cell takes, and one with a few."""
+        """A dump with more places than a cell can list, and one with a few."""
         disc = known.album(6, 1)
         stream = known.program(disc, 150, disc.end, 0)
         parts = known.split(stream)
@@ -318,7 +318,7 @@ class ReportTest(FolderTest):
         self.assertEqual([row["file"] for row in self.table()], ["good", "link/dump"])
 
     def test_a_file_that_ends_its_worker_each_time(self) -> None:
-        """Such a file is a row and is named; all others are looked at."""
+        """Such a file has a row and is named; all others are read."""
         dumps(self.dumps, 12)
         before = examine
 
@@ -339,7 +339,7 @@ class ReportTest(FolderTest):
         self.assertEqual([row["status"] for row in self.table() if row["status"] == "unread"], [])
 
     def test_a_worker_that_is_killed_once_is_named(self) -> None:
-        """The file is looked at again, and the report is whole."""
+        """The file is read again, and the report is complete."""
         dumps(self.dumps, 8)
         before, mark = examine, self.folder / "mark"
 
@@ -384,13 +384,13 @@ def free_port() -> int:
 
 
 def is_connected(port: int) -> bool:
-    """Whether somebody is connected to a port of this machine."""
+    """Whether a process is connected to a port of this machine."""
     rows = [line.split() for line in Path("/proc/net/tcp").read_text().splitlines()[1:]]
     return any(row[1].endswith(f":{port:04X}") and row[3] == "01" for row in rows)
 
 
 def wait_for(port: int) -> None:
-    """Waits until somebody listens, two minutes at most."""
+    """Waits until a process listens, at most two minutes."""
     for _ in range(1200):
         with contextlib.suppress(OSError), socket.create_connection(("127.0.0.1", port)):
             return
@@ -413,7 +413,7 @@ class ClusterTest(FolderTest):
         return process
 
     def by_itself(self, *words: Word) -> Ran:
-        """A run as a process of its own, whose threads end with it."""
+        """A run in its own process, whose threads end with it."""
         return desk(*words, env=dict(os.environ), timeout=120)
 
     def test_the_same_table_as_one_process(self) -> None:
@@ -440,7 +440,7 @@ class ClusterTest(FolderTest):
         call: list[str | Path] = [sys.executable, DESK, "report", self.folder / "dumps", "-o", self.folder / "out"]
         call += ["--no-pictures", "--cluster", address]
         running = subprocess.Popen(call, stdout=subprocess.DEVNULL, stderr=subprocess.PIPE)
-        # With no worker it waits, once it is connected.
+        # Without a worker it waits once it is connected.
         until = time.monotonic() + 60
         while not is_connected(port) and running.poll() is None and time.monotonic() < until:
             time.sleep(0.1)

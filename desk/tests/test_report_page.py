@@ -1,4 +1,4 @@
-"""The script of a report's page, in Node: the order of rows, and which of them a filter leaves."""
+"""The script of the page of a report, in Node: the order of the rows, and the rows that a filter leaves."""
 import json
 import shutil
 import subprocess
@@ -8,7 +8,7 @@ from typing import Any
 from fixtures import TOP
 
 SCRIPT = TOP / "desk" / "ribjasper" / "dumps" / "report.js"
-# What the page has of dumps: the share is empty where there is no Q.
+# The data of the page about dumps: the share is empty if there is no Q.
 ROWS = [
     {"status": "good", "share": "1", "name": "Disc One.sub"},
     {"status": "damaged", "share": "0.875", "name": "disc two.sub"},
@@ -49,7 +49,7 @@ class ReportScriptTest(unittest.TestCase):
         self.assertEqual(self.shown(name="disc", state="damaged"), [names[1]])
 
     def test_shares_of_good_q(self) -> None:
-        """Both ends count, and a dump without Q is left out by either."""
+        """Both limits are inclusive, and either limit excludes a dump without Q."""
         names = [row["name"] for row in ROWS]
         self.assertEqual(self.shown(least="87.5"), names[:2])
         self.assertEqual(self.shown(most="87.5"), [names[1], names[3]])

@@ -37,7 +37,7 @@ class QuietTest(FolderTest):
         for words in calls:
             ran = desk(*words)
             self.assertEqual((ran.status, len(ran.errors.splitlines())), (3, 1), ran)
-        # The next call is as loud as before.
+        # The next call prints its notes again.
         self.assertIn("torn", desk("damage", dump).errors)
 
     def test_each_command_has_it(self) -> None:
@@ -47,7 +47,7 @@ class QuietTest(FolderTest):
 
 class ProgressTest(FolderTest):
     def on_a_terminal(self, *words: object) -> str:
-        """What a call prints on a terminal, on which a bar comes at once."""
+        """The output of a call on a terminal, with a progress bar that appears at once."""
         shown = Terminal()
         with contextlib.redirect_stderr(shown), contextlib.redirect_stdout(io.TextIOWrapper(io.BytesIO())):
             with mock.patch.object(progress, "DELAY", 0):
@@ -58,7 +58,7 @@ class ProgressTest(FolderTest):
     @needs_ffmpeg
     @needs_library
     def test_a_film(self) -> None:
-        """A bar of frames on a terminal, and none with -q or elsewhere."""
+        """A progress bar of frames on a terminal, and none with -q or elsewhere."""
         stream = self.write("a.raw", hello())
         self.assertIn("frames/s", self.on_a_terminal("film", stream, "-o", self.folder / "a.mp4"))
         self.assertEqual(self.on_a_terminal("film", "-q", stream, "-o", self.folder / "b.mp4"), "")
@@ -81,7 +81,7 @@ class ProgressTest(FolderTest):
 
     @needs("tqdm", "python3-tqdm")
     def test_one_bar_at_a_time(self) -> None:
-        """A loop within another one has no bar; a note clears the bar first."""
+        """A loop inside another one has no progress bar; a note clears the bar first."""
         shown = Terminal()
         with contextlib.redirect_stderr(shown), mock.patch.object(progress, "DELAY", 0):
             for _ in progress.progress(range(2), 2, "outer"):
@@ -99,7 +99,7 @@ class CompletionsTest(FolderTest):
     @needs("shtab", "python3-shtab")
     @unittest.skipUnless(shutil.which("bash"), "bash is not installed")
     def test_bash(self) -> None:
-        """What bash completes: commands, options, and names of files."""
+        """The completions of bash: commands, options, and names of files."""
         self.write("a.cue", "")
         script = self.write("desk.bash", self.completions("bash"))
 

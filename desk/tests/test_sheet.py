@@ -1,4 +1,4 @@
-"""`sheet`: of an authored stream the sheet that was given, up to spelling; and `author` takes it again."""
+"""`sheet`: the sheet of an authored stream equals the original up to spelling, and `author` accepts it."""
 import re
 import unittest
 
@@ -53,13 +53,13 @@ GAPS = b"""FILE "a.wav" WAVE
 
 
 def plain(sheet: bytes) -> list[bytes]:
-    """The lines of a sheet without remarks, margins and the name of the file."""
+    """The lines of a sheet without remarks, indentation and the name of the file."""
     lines = [line.strip() for line in sheet.splitlines()]
     return [re.sub(rb"^FILE .*", b"FILE", line) for line in lines if not line.startswith(b"REM")]
 
 
 def in_order(sheet: bytes) -> list[list[bytes]]:
-    """The lines of the album and of each track, each part in order."""
+    """The lines of the album and of each track, each part sorted."""
     parts: list[list[bytes]] = [[]]
     for line in plain(sheet):
         if line.startswith(b"TRACK"):
@@ -77,7 +77,7 @@ class SheetTest(FolderTest):
         return out.read_bytes()
 
     def again(self, sheet: bytes) -> bytes:
-        """The stream that `author` makes with the words of the sheet's first line."""
+        """The stream that `author` makes with the options in the first line of the sheet."""
         words = sheet.splitlines()[0].decode().split()
         self.assertEqual(words[:3], ["REM", "ribjasper", "author"])
         return author(sheet, words[6], self.folder, int(words[4]))
@@ -97,7 +97,7 @@ class SheetTest(FolderTest):
         self.assertEqual(self.again(back), stream)
 
     def test_every_place_of_an_index(self) -> None:
-        """Blocks that carry a code tell no index; wherever a pause or an index begins, the stream comes again."""
+        """Blocks with a code have no index; wherever a pause or an index begins, the same stream is made again."""
         for place in (*range(40, 54), *range(95, 104)):
             given = (
                 f'CATALOG 0123456789012\nFILE "a" WAVE\nTRACK 01 AUDIO\nISRC DEXYZ2600001\nINDEX 01 00:00:00\n'

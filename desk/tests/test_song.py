@@ -1,4 +1,4 @@
-"""The song of examples/song/, by the five commands of the guide."""
+"""The song of examples/song/, with the five commands of the guide."""
 import subprocess
 import sys
 import unittest
@@ -38,7 +38,7 @@ class SongTest(FolderTest):
         self.check_picture(raw)
 
     def check_picture(self, raw: Path) -> None:
-        """The picture in the documents is the first still after fifteen seconds, and stands on the image too."""
+        """The picture in the documents is the first still after fifteen seconds, and the image shows it too."""
         from PIL import Image
 
         stream, stills = open_stream(raw), Stills(RATE, None)

@@ -1,4 +1,4 @@
-"""Lyrics of all formats and encodings are read, and all their faults are reported at once."""
+"""Lyrics of all formats and encodings are read, and all their errors are reported together."""
 import random
 import struct
 import sys
@@ -92,8 +92,7 @@ class LrcTest(SongTest):
         )
         self.assertEqual((song.title, song.performer), ("A song", "Somebody"))
         self.assertEqual(words(song), [[("First line", 5.5)], [("Second", 10)], [("Third", 60)]])
-        # A line whose end no time tells is swept over with at least twelve letters a second, and stays until the next
-        # one.
+        # A line without an end time is lit with at least twelve letters per second, and remains until the next line.
         self.assertEqual([line.end for line in song.lines], [6.5, 12.5, 61])
         self.assertEqual([line.stays for line in song.lines], [10, 12.5, 61])
         self.assertEqual([line.is_open for line in song.lines], [True, False, True])
@@ -170,7 +169,7 @@ class LrcTest(SongTest):
         self.assertAlmostEqual(first.end - first.start, letters / 12)
         self.assertAlmostEqual(first.stays, first.end)
         self.assertEqual((second.end, second.stays), (31, 31))
-        # A sign for a whole syllable counts as three letters.
+        # A character for a whole syllable counts as three letters.
         self.assertAlmostEqual(third.end - third.start, 5 * 3 / 12)
 
     def test_pictures_between_verses(self) -> None:
@@ -236,7 +235,7 @@ class LettersTest(SongTest):
 
     @needs("chardet", "python3-chardet")
     def test_guesses_of_encodings(self) -> None:
-        """Songs of random lines in many languages, each as old programs wrote them."""
+        """Songs of random lines in many languages, each in the encoding of old programs."""
         dice, seen = random.Random(3), 0
         for language, (encodings, lines) in CORPORA.items():
             for encoding in encodings:
@@ -293,7 +292,7 @@ class AssTest(SongTest):
     def test_what_the_templater_reads_and_makes(self) -> None:
         song = self.song(TEMPLATER, "a.ass")
         self.assertEqual(words(song), [[("Sa", 5), ("ku", 5.5), ("ra ", 5.8), ("sky", 6.2)]])
-        # Without the comments only what the templater made is left out.
+        # Without the comments, only the output of the templater is missing.
         plain = "".join(f"{line}\n" for line in TEMPLATER.splitlines() if "Comment" not in line)
         song = self.song(plain + "Dialogue: 0,0:00:09.00,0:00:10.00,Default,,0,0,0,,Plain\n", "a.ass")
         self.assertEqual(words(song), [[("Plain", 9)]])
@@ -304,7 +303,7 @@ class UltraStarTest(SongTest):
         song = self.song(
             "#BPM:150\n#GAP:1000\n: 0 8 60 a\nB 16 300\n: 12 8 60 b\n- 24\nB 32 75\n: 36 4 60 c\nE\n", "a.txt"
         )
-        # A tenth of a second a beat, then half of that, then two tenths.
+        # A tenth of a second per beat, then half of that, then two tenths.
         found = [[(round(one.start, 3), round(one.end, 3)) for one in line.syllables] for line in song.lines]
         self.assertEqual(found, [[(1.0, 1.8), (2.2, 2.8)], [(4.2, 5.0)]])
         self.assertEqual(song.notes, [])
@@ -313,7 +312,7 @@ class UltraStarTest(SongTest):
     def test_notes(self) -> None:
         song = self.song(ULTRASTAR, "a.txt")
         self.assertEqual((song.title, song.performer), ("Stars", "Somebody"))
-        # 150 beats a minute, four of the file for each: a tenth of a second.
+        # 150 beats per minute, four of the file's beats for each: a tenth of a second.
         self.assertEqual(
             words(song),
             [[("Twin", 2), ("kle", 2.4), (" twin", 2.8), ("kle", 3.2)], [("lit", 4), ("tle", 4.4), (" star", 6)]],
@@ -397,7 +396,7 @@ class SrtTest(SongTest):
 
 
 def variable(number: int) -> bytes:
-    """A number of a MIDI file, seven bits a byte."""
+    """A number in a MIDI file, with seven bits per byte."""
     digits = [number & 127]
     while number := number >> 7:
         digits.append(number & 127 | 128)
@@ -405,7 +404,7 @@ def variable(number: int) -> bytes:
 
 
 def midi(*events: tuple[int, int, bytes], division: int = 480) -> bytes:
-    """A MIDI file of one track: meta events with the ticks that they come after the one before."""
+    """A MIDI file with one track: meta events, with the ticks since the previous event."""
     track = b"".join(
         variable(ticks) + b"\xff" + bytes([kind]) + variable(len(text)) + text for ticks, kind, text in events
     )
@@ -415,7 +414,7 @@ def midi(*events: tuple[int, int, bytes], division: int = 480) -> bytes:
 
 @needs("mido", "python3-mido")
 class KarTest(SongTest):
-    # Half a second a beat, and then a quarter.
+    # Half a second per beat, and then a quarter.
     SLOW, FAST = (500_000).to_bytes(3, "big"), (250_000).to_bytes(3, "big")
 
     def test_texts(self) -> None:

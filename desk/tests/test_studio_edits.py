@@ -1,4 +1,4 @@
-"""The model of the studio: edits of a score, undo and redo, the journal, and what is saved; without a page."""
+"""The model of the studio: edits of a score, undo and redo, the journal, and the saved files; without a page."""
 import random
 import unittest
 from pathlib import Path
@@ -78,7 +78,7 @@ class TapTest(unittest.TestCase):
         self.assertEqual(score.untimed, [2, 3])
 
     def test_taps_line_by_line(self) -> None:
-        """A line with one time stays until the next one, and its sweep has at most twelve letters a second."""
+        """A line with one time remains until the next line, and is lit with at most twelve letters per second."""
         score = score_of_plain()
         for key, at in ((1, 1.0), (2, 4.0), (3, 30.0)):
             score = edited(score, {"do": "tap", "line": key, "at": at})
@@ -271,7 +271,8 @@ class HistoryTest(FolderTest):
         return history
 
     def test_a_thousand_edits(self) -> None:
-        """Times stay in order, undoing all edits gives the first file byte for byte, and redoing them the last score."""
+        """Times stay in order, undoing all edits restores the first file byte for byte, and redoing them the last
+        score."""
         for seed, (name, content) in enumerate((("a.lrc", RICH), ("b.txt", TEXT))):
             opened = self.opened(name, content)
             history = self.check_edits(opened, 1_000, seed)
@@ -288,7 +289,7 @@ class HistoryTest(FolderTest):
             self.assertIs(history.score, last)
 
     def test_what_is_saved_is_what_was_edited(self) -> None:
-        """An edited song that is saved and opened again is the same score, apart from the keys of its lines."""
+        """An edited song that is saved and opened again has the same score, except for the keys of its lines."""
         opened, dice = self.opened("a.lrc", RICH), Dice(5)
         history, saved = History(opened.score), 0
         for _ in range(150):

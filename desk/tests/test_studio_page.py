@@ -22,9 +22,9 @@ SCRIPT = Path(__file__).with_name("studio_page.mjs")
 TIMES = TOP / "desk" / "ribjasper" / "commands" / "publish" / "studio_page" / "times.js"
 needs_node = unittest.skipUnless(shutil.which("node"), "node is not installed")
 LINES = 12
-# How far a tap may be from its time, in seconds, and how long an edit may take to be seen.
+# The greatest distance of a tap from its time, and the longest time until an edit is visible, in seconds.
 NEAR, SOON = 0.03, 0.5
-# How long the browser may take, in seconds; most of it is the song that plays.
+# The longest time for the browser, in seconds; most of it is the playing song.
 PATIENCE = 200
 
 
@@ -75,7 +75,7 @@ class TimesTest(FolderTest):
         self.assertEqual(found[7], 2)
 
     def test_the_clock_of_the_sound(self) -> None:
-        """Reports of the sound that come late are outvoted; what comes behind a jump holds."""
+        """Late reports of the position of the sound are outvoted; after a jump, the new position holds."""
         found = self.node(
             """const clock = new SoundClock();
             const sound = (from, to, rate, at) => { for (let now = from; now < to; now += 20)
@@ -125,7 +125,7 @@ class PageTest(FolderTest):
         return found
 
     def drive(self, address: str, *mode: str) -> None:
-        """Runs the browser; whatever it started ends with it."""
+        """Runs the browser; all processes that it started end with it."""
         call = [
             "node",
             "--experimental-websocket",
@@ -143,7 +143,7 @@ class PageTest(FolderTest):
                     os.killpg(browser.pid, signal.SIGKILL)
 
     def check_near(self, times: list[float], wanted: list[float]) -> None:
-        """All taps are near their times. The sound of a busy machine stutters, and then half of them are."""
+        """All taps are near their times. On a busy machine the sound stutters, and then half of the taps are enough."""
         apart = sorted(abs(one - other) for one, other in zip(times, wanted, strict=True))
         self.assertLessEqual(apart[len(apart) // 2 if is_busy() else -1], NEAR, (times, wanted))
 
@@ -166,7 +166,7 @@ class PageTest(FolderTest):
         self.check_files(found)
 
     def test_an_edit_is_soon_seen(self) -> None:
-        """In a song of four minutes, at a moment when the machine is not busy with something else."""
+        """In a song of four minutes, while the machine is not busy with something else."""
         if is_busy():
             self.skipTest("the machine is busy")
         found = self.run_page(self.write("long.lrc", long_song()), 240, "times")
@@ -175,7 +175,7 @@ class PageTest(FolderTest):
         self.assertLess(min(found["times"]), 1000 * SOON, found["times"])
 
     def check_files(self, found: dict[str, Any]) -> None:
-        """The saved lyrics have the tapped times, and `pair` makes the same graphics of them as the page."""
+        """The saved lyrics have the tapped times, and `pair` makes the same graphics from them as the page."""
         song = read_song(self.folder / "song.lrc")
         self.assertEqual([line.start for line in song.lines], found["starts"])
         self.assertEqual(song.lines[2].text, "Another third line")

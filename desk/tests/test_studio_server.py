@@ -1,4 +1,4 @@
-"""The desk behind the page of the studio: who may ask, what is written, and what a second studio does."""
+"""The server of the studio: who may send requests, what is written, and what a second studio does."""
 import contextlib
 import errno
 import functools
@@ -100,7 +100,7 @@ class ServerTest(StudioTest):
                 thread.join()
 
     def ask(self, server: Server, path: str, table: object = None, **headers: str) -> Answered:
-        """Asks for a path behind the token, or for a whole one that begins with a slash."""
+        """Requests a path after the token, or a whole path that begins with a slash."""
         connection = http.client.HTTPConnection("127.0.0.1", server.server_address[1], timeout=60)
         whole = path if path.startswith("/") else f"/{server.token}/{path}"
         named = {name.replace("_", "-"): value for name, value in headers.items()}
@@ -177,7 +177,7 @@ class ServerTest(StudioTest):
         self.assertEqual(self.names(), {"a.lrc", "a.wav"})
 
     def test_a_fault_is_answered(self) -> None:
-        """A page learns of a fault of the desk, and the server goes on."""
+        """The page is told about a bug of the desk, and the server continues."""
         studio = self.studio(self.song())
         with self.served(studio) as server, mock.patch.object(studio, "undo", side_effect=ZeroDivisionError("x")):
             found = self.ask(server, "undo", {})
@@ -276,7 +276,8 @@ class FilesTest(StudioTest):
         self.assertNotIn("a.lrc", self.names())
 
     def test_lyrics_of_others_stay(self) -> None:
-        """LRC that neither the studio nor the desk wrote is not replaced, and a list of an album only grows."""
+        """LRC files that neither the studio nor the desk wrote are not overwritten, and a list of an album only
+        grows."""
         song = self.song("a.txt", TEXT)
         self.write("a.lrc", LRC)
         studio = self.studio(song)
@@ -403,7 +404,7 @@ class PicturesTest(StudioTest):
     @needs_pillow
     @needs_font
     def test_every_format_is_saved_without_loss(self) -> None:
-        """A song that is opened and saved without edits gives the same script, whatever kind of file it was."""
+        """A song that is opened and saved without edits gives the same script, whatever the kind of its file."""
         for name, text in FORMATS.items():
             with self.subTest(name=name):
                 self.check_kept(self.song(name, text))
@@ -419,7 +420,7 @@ class PicturesTest(StudioTest):
         self.check_kept(song)
 
     def check_kept(self, song: Path) -> None:
-        """What the studio saves gives the same script as the song, which stays as it was."""
+        """The saved file gives the same script as the song, which is unchanged."""
         content = song.read_bytes()
         studio = self.studio(song)
         studio.save()
@@ -510,7 +511,7 @@ class PicturesTest(StudioTest):
     @needs_pillow
     @needs_font
     def test_what_keeps_a_song_from_being_made(self) -> None:
-        """The page shows why there are no pictures, and later edits have pictures again."""
+        """The page shows why there are no pictures, and after later edits it has pictures again."""
         studio = self.studio(self.song())
         studio.do({"do": "move", "lines": [2], "by": 50})
         made = studio.rehearsal.wait(studio.revision, 60)
@@ -535,7 +536,7 @@ class PicturesTest(StudioTest):
     @needs_pillow
     @needs_font
     def test_known_needs_change_nothing(self) -> None:
-        """After each edit the packs are those that are made without what is known of the edits before."""
+        """After each edit, the packs equal those that are made without the cache of earlier edits."""
         rows = "".join(f"[00:{10 + 3 * n:02}.00]Line {n} of {n % 4}\n" for n in range(14))
         studio = self.studio(self.song("a.lrc", rows, 60))
         like, known = studio.opened.document.song, len(studio.known.answers)

@@ -1,4 +1,4 @@
-"""`report --submission`: what databases ask for of a disc whose truth is known."""
+"""`report --submission`: the data that databases request about a disc, for a disc whose content is known."""
 import hashlib
 import json
 import random
@@ -12,7 +12,7 @@ from known_dumps import AUDIO, Disc, Track, program
 
 
 def game() -> Disc:
-    """A data track and an audio track with a pause and a code, a catalogue number, and texts."""
+    """A data track, an audio track with a pause and a code, a catalogue number, and texts."""
     disc = Disc(
         [Track(1, 150, 0, control=4), Track(2, 1850, 1700, control=2, isrc="DEXYZ2600002", indexes={2: 2000})], 2400
     )

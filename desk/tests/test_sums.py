@@ -1,4 +1,4 @@
-"""`sums`: checksums of files by other programs, the list of Logiqx, and what a check against it says."""
+"""`sums`: checksums of files compared with other programs, the list of Logiqx, and the result of a check against it."""
 import subprocess
 import unittest
 import xml.etree.ElementTree as xml

@@ -1,4 +1,4 @@
-"""`texts --all`: disc identification, genre, all languages and character codes, of packs whose truth is known."""
+"""`texts --all`: disc identification, genre, all languages and character codes, from packs whose content is known."""
 import unittest
 
 import known_dumps as known
@@ -8,7 +8,7 @@ SPOKEN = {0: 0x09, 1: 0x69, 2: 0x08}
 
 
 def packs() -> list[bytes]:
-    """English in Latin-1, Japanese in MS-JIS, German in ASCII; of three tracks."""
+    """The packs of three tracks: English in Latin-1, Japanese in MS-JIS, German in ASCII."""
     english = {
         0x80: ["Café".encode("latin-1"), b"One", b"\t", b"A title that needs more than one pack of text"],
         0x81: [b"The Band", b"", b"Guest", b""],
@@ -65,7 +65,7 @@ class TextPacksTest(FolderTest):
         self.assertIn("which --all prints: 3 languages, closed, disc-id, genre, toc, ASCII, MS-JIS", self.ran.errors)
 
     def test_a_pack_that_is_missing(self) -> None:
-        """Texts that it was a part of are left out, all others stay with their tracks."""
+        """Texts with a part in this pack are left out, and all others stay with their tracks."""
         titles = [b"The album of the year", b"One", b"Two", b"Three", b"Four and a half", b"Five"]
         own = known.text_packs(0, 0, {0x80: titles})
         sizes = known.size_packs(0, len(own), 0, 5, own, {0: 9}, {0: len(own) + 2})

@@ -1,5 +1,5 @@
-"""`sums --tracks`: tracks as other code cuts them, the disc of a list, the offset of its audio, and error detection
-codes."""
+"""`sums --tracks`: tracks compared with those that other code cuts, the disc of a list, the offset of its audio, and
+error detection codes."""
 import hashlib
 import random
 import subprocess
@@ -16,12 +16,12 @@ PAUSE = 150
 
 
 def mixed() -> Disc:
-    """A data track and two audio tracks with pauses, as games have them."""
+    """A data track and two audio tracks with pauses, as on discs of games."""
     return Disc([Track(1, 150, 0, control=4), Track(2, 850, 700), Track(3, 1300, 1225)], 1700)
 
 
 def sectors_of(disc: Disc, seed: int = 1) -> list[bytes]:
-    """What is on each sector of a disc from the absolute time 00:02:00 on."""
+    """The content of each sector of a disc, from the absolute time 00:02:00 on."""
     chance = random.Random(seed)
     found = []
     for block in range(150, disc.end):
@@ -31,7 +31,7 @@ def sectors_of(disc: Disc, seed: int = 1) -> list[bytes]:
 
 
 def dat(games: dict[str, list[tuple[str, bytes]]]) -> str:
-    """A list of discs with the files of their tracks, and a sheet, which is no track."""
+    """A list of discs with the files of their tracks, and a sheet, which is not a track."""
     lines = ['<?xml version="1.0"?>', "<datafile><header><name>a list</name></header>"]
     for name, files in games.items():
         lines.append(f'<game name="{name}"><rom name="{name}.cue" size="5" crc="00000001" md5="x" sha1="y"/>')
@@ -47,14 +47,15 @@ def dat(games: dict[str, list[tuple[str, bytes]]]) -> str:
 
 
 def moved(tracks: list[bytes], whole: bytes, starts: list[int], samples: int) -> list[bytes]:
-    """Tracks whose audio begins so many samples later in the image; silence where it has none."""
+    """Tracks whose audio begins `samples` samples later in the image, with silence where there is no audio."""
     padded = bytes(4 * 5000) + whole + bytes(4 * 5000)
     return [padded[4 * 5000 + AUDIO * at + 4 * samples :][: len(track)] for at, track in zip(starts, tracks)]
 
 
 class EdcTest(unittest.TestCase):
     def test_codes(self) -> None:
-        """Those that are worked out bit by bit, of each mode; and that of a known sector: zeros have the code zero."""
+        """The codes of each mode, compared with codes computed bit by bit; and a known sector: zeros have the code
+        zero."""
         sectors = [
             known.data_sector(150 + k, mode, form) for k, (mode, form) in enumerate(((1, 1), (2, 1), (2, 2)) * 5)
         ]
@@ -88,7 +89,7 @@ class EdcTest(unittest.TestCase):
 
 class PlacesTest(unittest.TestCase):
     def test_places_of_a_checksum(self) -> None:
-        """The checksum of each place is that of zlib."""
+        """The checksums of all places are those of zlib."""
         chance = random.Random(4)
         for length in (4, 8, 100, 2352):
             content = chance.randbytes(4 * 300 + length)
@@ -100,14 +101,14 @@ class PlacesTest(unittest.TestCase):
 
 
 class TracksTest(FolderTest):
-    """Tracks of a .bin with its sheet: the library is not needed."""
+    """The tracks of a .bin file with its sheet; these tests do not need the library."""
 
     def setUp(self) -> None:
         super().setUp()
         self.disc = mixed()
         self.sectors = sectors_of(self.disc)
         self.whole = b"".join(self.sectors)
-        # Data from index 01, audio from the pause, each to where the next begins.
+        # Data from index 01 on, audio from the pause on, each up to the beginning of the next track.
         self.bounds = [(0, 550), (550, 1075), (1075, 1550)]
         self.cut = [self.whole[AUDIO * a : AUDIO * b] for a, b in self.bounds]
         self.cue = (
@@ -125,7 +126,7 @@ class TracksTest(FolderTest):
         return ran
 
     def check_rows(self, ran: Ran, cut: list[bytes]) -> None:
-        """The sums of tracks are those of other programs on the cut files."""
+        """The sums of the tracks are those of other programs for the cut files."""
         rows = ran.rows()
         self.assertEqual(len(rows), len(cut))
         for number, (row, content) in enumerate(zip(rows, cut), 1):
@@ -157,7 +158,7 @@ class TracksTest(FolderTest):
         self.assertIn("names the file disc (Track 2).bin, which is not there", ran.errors)
 
     def test_a_data_track_begins_with_index_01(self) -> None:
-        """The sectors of its pause are in no track, which is said."""
+        """The sectors of its pause belong to no track, and a note says so."""
         self.cue = (
             'FILE "disc.bin" BINARY\n  TRACK 01 AUDIO\n    INDEX 01 00:00:00\n  TRACK 02 MODE1/2352\n'
             "    INDEX 00 00:07:25\n    INDEX 01 00:09:25\n"
@@ -205,7 +206,7 @@ class TracksTest(FolderTest):
         self.assertIn("no disc of the list has one of its tracks", ran.errors)
 
     def test_an_offset_by_the_list(self) -> None:
-        """The audio of the list begins elsewhere in the image, as if another drive had read it."""
+        """In the list, the audio begins elsewhere in the image, as if another drive had read it."""
         image = self.image()
         for samples in (6, -30, 667, -1182, 2940):
             cut = [
@@ -218,7 +219,7 @@ class TracksTest(FolderTest):
             self.assertIn("is Game: 3 of 3 tracks are the same", ran.errors)
 
     def test_a_silent_track_tells_no_offset(self) -> None:
-        """The last track, which is the shortest, is silent; the other one tells."""
+        """The last and shortest track is silent; the other one gives the offset."""
         self.whole = self.whole[: AUDIO * 1075] + bytes(AUDIO * 475)
         image = self.image()
         audio = bytes(AUDIO * 550) + self.whole[AUDIO * 550 :]
@@ -250,7 +251,7 @@ class TracksTest(FolderTest):
 
 @needs_library
 class ImageTracksTest(TracksTest):
-    """The same tracks, in an image of sectors with subcode, which is cut by its Q channel."""
+    """The same tracks in an image of sectors with subcode, cut by its Q channel."""
 
     def image(self, content: bytes | None = None) -> Path:
         whole = self.whole if content is None else content

@@ -1,5 +1,5 @@
-/* A plug-in for GStreamer: `ribjasperdec` turns CD+G into pictures by libribjasper, and two type finders know .cdg files and
-   raw subcode. Build it with the Makefile beside this file.
+/* A plug-in for GStreamer: the element `ribjasperdec` decodes CD+G with libribjasper, and two type finders recognize .cdg
+   files and raw subcode. Build it with the Makefile in this folder.
 
    gst-launch-1.0 filesrc location=song.cdg ! ribjasperdec ! videoconvert ! autovideosink
    gst-launch-1.0 filesrc location=dump.sub ! ribjasperdec layout=raw lead-in=30 ! videoconvert ! autovideosink
@@ -45,7 +45,7 @@ static GstStaticPadTemplate sink_template = GST_STATIC_PAD_TEMPLATE("sink", GST_
 static GstStaticPadTemplate source_template = GST_STATIC_PAD_TEMPLATE("src", GST_PAD_SRC, GST_PAD_ALWAYS,
     GST_STATIC_CAPS(GST_VIDEO_CAPS_MAKE("{ BGRx, RGBx, RGB16 }") ", width = 300, height = 216"));
 
-/* If the library did not do what it was asked for, posts an error message of the element with its answer in words. */
+/* If a call of the library failed, posts an error message of the element with the answer in words. */
 static gboolean is_done(RibjasperDec *self, gint32 answer, const gchar *what)
 {
     char text[RIBJASPER_ANSWER_TEXT];
@@ -56,7 +56,7 @@ static gboolean is_done(RibjasperDec *self, gint32 answer, const gchar *what)
     return FALSE;
 }
 
-/* Begins anew, and agrees on what the next element takes. */
+/* Begins a new stream, and negotiates the format with the next element. */
 static gboolean begin(RibjasperDec *self, GstVideoCodecState *input)
 {
     GstVideoDecoder *decoder = GST_VIDEO_DECODER(self);
@@ -86,7 +86,7 @@ static gboolean start(GstVideoDecoder *decoder)
 {
     RibjasperDec *self = RIBJASPER_DEC(decoder);
     gst_video_decoder_set_packetized(decoder, FALSE);
-    /* A file source has no caps: then the property `layout` says what comes. */
+    /* A file source has no caps: then the property `layout` gives the form of the input. */
     gst_video_decoder_set_needs_format(decoder, FALSE);
     self->is_begun = FALSE;
     return is_done(self, ribjasper_player_open(&self->player), "the player does not open");
@@ -105,7 +105,7 @@ static gboolean set_format(GstVideoDecoder *decoder, GstVideoCodecState *state)
     return begin(self, state);
 }
 
-/* Cuts the stream into pieces of 1/75 second; what is left at the end is no piece. */
+/* Cuts the stream into pieces of 1/75 second; a rest at the end is dropped. */
 static GstFlowReturn parse(GstVideoDecoder *decoder, GstVideoCodecFrame *frame, GstAdapter *adapter, gboolean at_eos)
 {
     (void)frame, (void)at_eos;
@@ -236,7 +236,7 @@ static void ribjasper_dec_init(RibjasperDec *self)
     (void)self;
 }
 
-/* A .cdg file: each of the first packs is of CD+G or empty, and some are of CD+G. */
+/* A .cdg file: each of the first packs is a CD+G pack or empty, and some are CD+G packs. */
 static void find_packs(GstTypeFind *find, gpointer data)
 {
     enum { LOOKED_AT = 300 };
@@ -255,7 +255,7 @@ static void find_packs(GstTypeFind *find, gpointer data)
         gst_type_find_suggest_empty_simple(find, GST_TYPE_FIND_LIKELY, PACK_CAPS);
 }
 
-/* Raw subcode: three in four of the first blocks have a Q frame whose check is right. */
+/* Raw subcode: at least three in four of the first blocks have a Q frame with a right check. */
 static void find_blocks(GstTypeFind *find, gpointer data)
 {
     enum { LOOKED_AT = 75 };

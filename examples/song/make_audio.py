@@ -1,6 +1,6 @@
 #!/usr/bin/env python3
-"""Writes the audio of a song: chords, a bass, and a note for each syllable of its lyrics at its time; a minute for
-song.lrc, and else until five seconds after the last word.
+"""Writes the audio of a song: chords, a bass, and a note for each syllable of its lyrics at its time. It lasts one
+minute for song.lrc, and otherwise until five seconds after the last word.
 
 make_audio.py OUT.wav [LYRICS]"""
 import argparse
@@ -15,7 +15,7 @@ from array import array
 from pathlib import Path
 from typing import Iterator, NamedTuple
 
-# The package of the checkout, whether or not it is installed.
+# The package of this checkout, installed or not.
 site.addsitedir(str(Path(__file__).resolve().parents[2] / "desk"))
 
 from ribjasper.songs.song_files import read_song# noqa: E402
@@ -26,7 +26,7 @@ HERE = Path(__file__).resolve().parent
 RATE, SECONDS, LAST = 44_100, 60, 5
 BEAT = 60 / 108
 BAR = 4 * BEAT
-# Two bars of each chord, by semitones from the note of 440 Hz.
+# Two bars for each chord, in semitones from the note of 440 Hz.
 CHORDS = ((-9, -5, -2), (-14, -10, -7), (-12, -9, -5), (-16, -12, -9))
 # The tune, a phrase for each line of the song.
 PHRASES = (
@@ -44,7 +44,8 @@ PHRASES = (
 
 
 class Note(NamedTuple):
-    """When it begins and how long it sounds, in seconds; its pitch; how loud it is; and where, 0 left to 1 right."""
+    """A note: its beginning and length in seconds, its pitch, its loudness, and its place from 0 (left) to 1
+    (right)."""
 
     start: float
     length: float
@@ -54,7 +55,7 @@ class Note(NamedTuple):
 
 
 def wave_table(overtones: tuple[float, ...]) -> list[float]:
-    """One period of a tone, of 1,024 samples."""
+    """One period of a tone, with 1,024 samples."""
     return [sum(part * math.sin(2 * math.pi * (number + 1) * at / 1024) for number, part in enumerate(overtones))
             for at in range(1024)]
 
@@ -64,7 +65,7 @@ TONE = wave_table((1.0, 0.35, 0.2, 0.08))
 
 @functools.lru_cache(maxsize=None)
 def samples(length: float, pitch: int, loud: float) -> list[int]:
-    """A note that begins at once and fades."""
+    """A note that begins at full level and fades."""
     step = 1024 * 440 * 2 ** (pitch / 12) / RATE
     count = int(RATE * length)
     attack, release = RATE // 100, RATE // 20
@@ -92,7 +93,7 @@ def chords(seconds: int) -> Iterator[Note]:
 
 
 def mixed(notes: list[Note], seconds: int) -> "array[int]":
-    """Left and right, sample by sample."""
+    """The left and right channel, sample by sample."""
     sides = [[0] * (RATE * seconds) for _ in range(2)]
     for note in notes:
         at = int(RATE * note.start)

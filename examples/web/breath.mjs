@@ -1,9 +1,9 @@
-// Long work in slices, between which the browser draws and listens.
+// Long work in slices, between which the browser can draw and react.
 
-// The milliseconds of a slice.
+// The length of a slice in milliseconds.
 const SLICE_OF_TIME = 12;
 
-/** Lets the browser draw and listen, where enough time has passed. */
+/** Lets the browser draw and react if enough time has passed. */
 export class Breath {
     #since = performance.now();
 

@@ -4,11 +4,11 @@ import { BLOCK_BYTES, NO_TIME, PACK_BYTES } from "../../lib/web/ribjasper.mjs";
 import { Breath } from "./breath.mjs";
 
 const AUDIO_BYTES = 2352;
-// P and Q as some drives give them: the frame, three bytes of zeros, and P in the highest bit of the last byte.
+// P and Q as some drives return them: the frame, three bytes of zeros, and P in the highest bit of the last byte.
 const PQ_BYTES = 16;
 const FRAME_BYTES = 12;
 
-/** How a file holds blocks: the bytes of a unit, how many of its last bytes are subcode, and what these are. */
+/** How a file stores blocks: the bytes of a unit, the number of its last bytes that are subcode, and their form. */
 const FORMS_OF_FILES = [
     { name: "raw", told: "raw subcode", unit: BLOCK_BYTES, size: BLOCK_BYTES, coding: "raw" },
     { name: "pq", told: "channels P and Q only", unit: PQ_BYTES, size: PQ_BYTES, coding: "pq" },
@@ -28,16 +28,16 @@ const FORMS_OF_FILES = [
 ];
 export const formNamed = (name) => FORMS_OF_FILES.find((it) => it.name === name);
 
-// A form is tried in windows of so many bytes: at first in a few that are not empty, of few places; if these tell little, in more.
+// A form is tried in windows of this many bytes: first in a few nonempty ones; if these decide little, in more.
 const WINDOW = 1 << 17;
 const FEW = { places: 64, windows: 12 };
 const MANY = { places: 2048, windows: 64 };
-// How often random bytes are good: a Q frame, one with fields of its own, one with fields and no check, a word with a codeword
-// near it, and the first two symbols of a pack of graphics. A form must be less likely by chance than UNLIKELY.
+// The probabilities that random bytes are good: a Q frame, one with its own fields, one with fields and no check, a word near a
+// codeword, and the first two symbols of a graphics pack. A form must be less likely by chance than UNLIKELY.
 const CHANCE = { frame: 2 ** -16, fields: 1e-9, unchecked: 1e-5, word: 1.6e-5, pack: 9 / 4096 };
 const UNLIKELY = 1e-8;
-// A form that explains this share of what is not empty is taken at once; one that explains less than COMPARABLE of the best is
-// dropped; from AS_MUCH on it counts as equal.
+// A form that explains this share of the nonempty units is accepted at once; one that explains less than COMPARABLE of the best
+// is dropped; from AS_MUCH on it counts as equal.
 const SURE = 0.9;
 const COMPARABLE = 0.7;
 const AS_MUCH = 0.95;
@@ -92,7 +92,7 @@ function blocksOfPq(ribjasper, content) {
     return ribjasper.fromPlanar(planar);
 }
 
-/** The frame of a unit; some drives leave its check out. */
+/** The frame of a unit; some drives omit its check. */
 function withCheck(unit) {
     const frame = unit.slice(0, FRAME_BYTES);
     const lacksCheck = frame.some((byte, k) => k < 10 && byte !== 0) && unit.subarray(10).every((byte) => (byte & 0x7f) === 0);
@@ -103,7 +103,7 @@ function withCheck(unit) {
     return frame;
 }
 
-/** CRC-16 with the polynomial x^16 + x^12 + x^5 + 1, as ECMA-130 has it. */
+/** CRC-16 with the polynomial x^16 + x^12 + x^5 + 1 of ECMA-130. */
 function checkOf(bytes) {
     let check = 0;
     for (const byte of bytes) {
@@ -147,13 +147,13 @@ export async function formOf(ribjasper, blob) {
     return { found: asCounted(blob, bestOf(seen)), why: "no known form of subcode fits" };
 }
 
-/** Packs with parity that are no whole blocks are a .cdg file. */
+/** Packs with parity whose number is not a multiple of four are a .cdg file. */
 function asCounted(blob, found) {
     const isCdg = found?.form.name === "cooked" && (blob.size - found.skip) % BLOCK_BYTES !== 0;
     return isCdg ? { ...found, form: formNamed("cdg") } : found;
 }
 
-/** Windows that are not empty, evenly spread. */
+/** Nonempty windows, evenly spread. */
 async function windowsOf(blob, { places: most, windows: enough }) {
     const places = Math.ceil(blob.size / WINDOW);
     const starts = places <= most
@@ -169,7 +169,7 @@ async function windowsOf(blob, { places: most, windows: enough }) {
     return full.length <= enough ? full : Array.from({ length: enough }, (_, k) => full[Math.floor((full.length * k) / enough)]);
 }
 
-/** What speaks for a form: its Q frames, how many are good and have fields; its words, how many carry something and are busy. */
+/** The evidence for a form: the numbers of Q frames, good ones and ones with fields; of words, nonempty and busy ones. */
 async function signsOf(ribjasper, windows, form, skip) {
     const total = { frames: 0, good: 0, fields: 0, carrying: 0, busy: 0, words: 0 };
     const add = (signs) => Object.entries(signs).forEach(([name, count]) => { total[name] += count; });
@@ -228,7 +228,7 @@ function packsIn(packs) {
     return found;
 }
 
-/** What a form explains: by Q or by words, which share of what is not empty, and how much; null if chance explains as much. */
+/** The share of the nonempty units that a form explains, by Q or by words, and the number; null if chance explains as much. */
 function explainedBy({ form, signs }) {
     const { frames, good, fields, carrying, busy, words } = signs;
     if (form.coding === "pq") {
@@ -245,7 +245,7 @@ function explainedBy({ form, signs }) {
     return is ? { byQ: false, share: carrying / busy, size: carrying } : null;
 }
 
-/** Whether so many good ones are more than random bytes have, by the Poisson distribution. */
+/** Whether so many good ones are more than random bytes would have, by the Poisson distribution. */
 function isNoChance(count, of, chance) {
     const expected = of * chance;
     if (count <= expected) {
@@ -268,7 +268,7 @@ function isLikely({ byQ, share }) {
     return share >= (byQ ? LIKELY_BY_Q : LIKELY_BY_WORDS);
 }
 
-/** The form that explains most. Of forms that explain as much, the one with the fewest words and frames. */
+/** The form that explains the most. Of equal forms, the one with the fewest words and frames. */
 function bestOf(seen) {
     const told = seen.map((it) => ({ it, by: explainedBy(it) })).filter(({ by }) => by !== null);
     const byQ = told.filter(({ by }) => by.byQ);
@@ -291,16 +291,16 @@ function bestOf(seen) {
 
 // ---- the lead-in
 
-// Pieces with fewer frames are taken for wrong frames if a longer piece is there.
+// Pieces with fewer frames are ignored as wrong frames if there is a longer piece.
 const FEWEST = 3;
-// A piece decides if it has a second of frames, or one in a hundred of all.
+// A piece decides if it has a second of frames, or a hundredth of all frames.
 const DECIDES = 75;
 const SHARE = 100;
 const MOST_PIECES = 300;
 const [TABLE_FIRST, TABLE_LAST] = [1, 4];
 
 /**
- * The blocks before the absolute time zero, as Q tells; null if no frame tells. If there is a table of contents and no
+ * The number of blocks before the absolute time zero, from Q; null if no frame gives it. If there is a table of contents and no
  * program, all blocks are lead-in.
  */
 export async function leadInOfSurvey(survey) {
@@ -315,7 +315,7 @@ export async function leadInOfSurvey(survey) {
     return Math.max(0, -decides.shift);
 }
 
-/** Neighbouring blocks whose absolute times go on by one: the first, the block behind the last, and time minus block. */
+/** Runs of blocks with consecutive absolute times: the first block, the block behind the last, and time minus block. */
 async function stretchesOf(survey) {
     const stretches = [];
     const breath = new Breath();
@@ -362,7 +362,7 @@ function piecesOf(stretches) {
     return joined(inOrder(long.length > 0 ? long : all));
 }
 
-/** The pieces whose times go on from each to the next and that have the most frames together. Stale subcode drops out. */
+/** The pieces with consecutive times that have the most frames together. Stale subcode is left out. */
 function inOrder(pieces) {
     const heaviest = pieces.toSorted((one, other) => other.known - one.known).slice(0, MOST_PIECES)
         .toSorted((one, other) => one.first - other.first);

@@ -1,4 +1,4 @@
-// What can be played of the files that were opened together: graphics, each with the sound and the sheet of its name.
+// What can be played from the files that were opened together: graphics, each with the sound and the sheet of the same name.
 import { bytesOfBlob } from "./detect.mjs";
 import { ZipError, isZip, zipFiles } from "./zip.mjs";
 
@@ -7,7 +7,7 @@ const SOUND_TYPES = new Map([["mp3", "audio/mpeg"], ["ogg", "audio/ogg"], ["oga"
 const STREAMS = new Set(["sub", "subcode", "raw", "cooked", "dump"]);
 const IMAGES = new Set(["img", "bin"]);
 const SHEETS = new Set(["cue", "ccd"]);
-// Files that stand beside dumps and songs, and are never played.
+// Files that belong to dumps and songs, and are never played.
 const OTHERS = new Set(["toc", "mds", "state", "log", "txt", "nfo", "jpg", "jpeg", "png", "gif", "webp", "pdf", "lrc", "srt", "kar",
     "mid", "html", "htm", "url", "db", "ini", "m3u", "m3u8", "md5", "sfv", "xml", "json", "script", "cdt"]);
 export const AUDIO_SECTOR = 2352;
@@ -26,12 +26,12 @@ function nameParts(path) {
     };
 }
 
-/** A file that was opened, or one of a zip: its name, its place, and `blob()`, which reads it. */
+/** A file that was opened, or one in a zip: its name, its path, and `blob()`, which reads it. */
 function entryOf(path, size, blob, why = "") {
     return { ...nameParts(path), size, blob, why };
 }
 
-/** The files of a drop or a choice, those of zips in their place. `wrong` has a line for each that cannot be read. */
+/** The dropped or chosen files, with the files of zips in place of the zips. `wrong` has a line for each unreadable file. */
 export async function entriesOf(files) {
     const entries = [];
     const wrong = [];
@@ -55,7 +55,7 @@ export async function entriesOf(files) {
     return { entries, wrong };
 }
 
-/** The files of a drop, those of folders too. */
+/** The dropped files, including those in folders. */
 export async function filesOfDrop(transfer) {
     const roots = [...transfer.items].filter((it) => it.kind === "file").map((it) => it.webkitGetAsEntry?.() ?? it.getAsFile());
     const found = [];
@@ -93,7 +93,7 @@ export const soundType = (entry) => SOUND_TYPES.get(entry.ending);
 
 /**
  * The items of files: `{ name, graphics, sound, image, sheet, why }`, in the order of the files. `sound` is a sound of the same
- * name; `image` holds the sectors whose subcode `graphics` is; `why` says why it cannot be played.
+ * name; `image` has the sectors whose subcode is `graphics`; `why` is the reason if the item cannot be played.
  */
 export function itemsOf(entries) {
     const all = entries.filter((it) => it.size > 0 || it.why !== "");
@@ -111,7 +111,7 @@ export function itemsOf(entries) {
             why: entry.why,
         });
     }
-    // Two files that are alone with each other are a pair whatever their names.
+    // If there are only two files, they are a pair whatever their names.
     if (items.length === 1 && items[0].image === undefined) {
         items[0].sound ??= only(sounds);
     }
@@ -120,7 +120,7 @@ export function itemsOf(entries) {
 
 const only = (list) => (list.length === 1 ? list[0] : undefined);
 
-/** The files that may hold graphics. An image is one only if no stream of its name is there. */
+/** The files that may have graphics. An image is one only if there is no stream of its name. */
 function graphicsIn(entries) {
     const isStream = (it) => it.ending === "cdg" || STREAMS.has(it.ending);
     const has = (it) => entries.some((other) => isStream(other) && other.ending !== "cdg" && other.folder === it.folder && other.stem === it.stem);
@@ -131,7 +131,7 @@ function graphicsIn(entries) {
 
 // ---- sheets
 
-/** What a sheet says of an image's tracks: whether all are audio, and whether the bytes of a sample are exchanged. */
+/** The facts in a sheet about the tracks of an image: whether all are audio, and whether the bytes of a sample are swapped. */
 export async function tracksOf(sheet) {
     if (sheet === undefined || sheet.size > MOST_SHEET) {
         return { isAudio: true, isSwapped: false };
@@ -183,7 +183,7 @@ export async function soundOfImage(blob, unit, skip, isSwapped, onward) {
         if (isSwapped) {
             exchange(audio);
         }
-        // As a blob it need not stay in memory.
+        // A blob need not remain in memory.
         parts.push(new Blob([audio]));
         await onward?.((first + count) / sectors);
     }

@@ -1,4 +1,4 @@
-// The page: what it opens, plays, shows and saves.
+// The page: opening, playing, showing and saving.
 import { MOST_LEAD_IN, HEIGHT, VERSION, WIDTH, load } from "../../lib/web/ribjasper.mjs";
 import { Breath } from "./breath.mjs";
 import { AUDIO_SECTOR, entriesOf, filesOfDrop, isSound, itemsOf, soundOfImage, soundType, tracksOf } from "./items.mjs";
@@ -6,14 +6,14 @@ import { clock, packsOfStream, sourceOf } from "./sources.mjs";
 import { Timeline } from "./timeline.mjs";
 import { Transport } from "./transport.mjs";
 
-// The bytes of the module, if they are inside the page.
+// The bytes of the module, if they are embedded in the page.
 const MODULE = undefined;
 
 const STEP_SECONDS = 5;
-// The browser reads a saved file behind the click.
+// The browser reads a saved file after the click.
 const KEEP_SAVED = 60_000;
 const HIDE_CONTROLS_AFTER = 3000;
-// The sound may fall behind the picture by less than this without the picture going back.
+// The greatest delay of the sound at which the picture does not jump back.
 const JITTER = 0.2;
 
 const at = (id) => document.getElementById(id);
@@ -27,10 +27,10 @@ class Page {
     #item = null;
     #source = null;
     #told = "";
-    // Counts what was opened, so that what comes late of an earlier file is dropped.
+    // Counts the opened files, so that late results for an earlier file are dropped.
     #turn = 0;
     #saving = null;
-    // Whether the user wants it to play, also while the next file is read.
+    // Whether the user wants the page to play, also while the next file is read.
     #goesOn = false;
     #idle = 0;
 
@@ -52,7 +52,7 @@ class Page {
 
     // ---- opening
 
-    /** Opens files that come together, each with its path, and plays or shows the first. */
+    /** Opens files that were chosen together, each with its path, and plays or shows the first. */
     async open(files) {
         await this.#try(async (turn) => {
             const { entries, wrong } = await entriesOf(files);
@@ -128,7 +128,7 @@ class Page {
         this.#showButtons();
     }
 
-    /** The sound of an item: `{ blob, offset }`, with a note if there is none that can be played. */
+    /** The sound of an item: `{ blob, offset }`, with a note if it cannot be played. */
     async #soundOf(item, source, form, skip, graphics) {
         const nothing = { blob: null, offset: undefined, note: "" };
         const isImage = form.unit > AUDIO_SECTOR;
@@ -197,7 +197,7 @@ class Page {
         }
     }
 
-    /** Reads the stream again behind a lead-in that the user gives. */
+    /** Reads the stream again, with a lead-in from the user. */
     async setLeadIn(text) {
         const leadIn = Number(text);
         const source = this.#source;
@@ -294,7 +294,7 @@ class Page {
         }
     }
 
-    /** Goes to a second because the user wants it. */
+    /** Seeks to a second on behalf of the user. */
     jump(seconds) {
         if (this.#source === null) {
             return;
@@ -332,7 +332,7 @@ class Page {
 
     // ---- showing
 
-    /** Shows the picture of now. While it plays a sound that falls behind a little does not take the picture back. */
+    /** Shows the current picture. If the sound is a little late while it plays, the picture does not jump back. */
     show(isExact) {
         const source = this.#source;
         if (source === null) {
@@ -393,7 +393,7 @@ class Page {
 
     // ---- saving
 
-    /** Saves the packs of a stream as a .cdg file, in parts, or stops doing so. */
+    /** Saves the packs of a stream as a .cdg file, in parts, or cancels this. */
     async save() {
         if (this.#saving !== null) {
             this.#saving = null;
@@ -421,7 +421,7 @@ class Page {
         at("save").textContent = "Save as .cdg";
     }
 
-    // What comes of an earlier file is not told over that of the next one.
+    // Late messages about an earlier file do not replace those about the next one.
     #tellOf(item, text, isWrong = false) {
         if (this.#item === item) {
             this.#tell(text, isWrong);
@@ -447,7 +447,7 @@ class Page {
         }
     }
 
-    /** Shows the controls of a full screen, which are hidden while nothing moves. */
+    /** Shows the controls in full screen, which are hidden while the pointer rests. */
     wake() {
         at("player").classList.remove("idle");
         clearTimeout(this.#idle);
@@ -471,7 +471,7 @@ function listenToControls(page) {
     at("open").addEventListener("click", () => at("file").click());
     at("file").addEventListener("change", (event) => {
         const files = [...event.target.files].map((file) => ({ path: file.name, file }));
-        // The same file can be chosen again.
+        // The user can choose the same file again.
         event.target.value = "";
         if (files.length > 0) {
             page.open(files);
@@ -489,7 +489,7 @@ function listenToControls(page) {
         page.wake();
         page.show(true);
     });
-    // What has the focus may be hidden, so keys are heard by the window.
+    // The focused element may be hidden, so the window handles keys.
     for (const kind of ["pointermove", "pointerdown", "keydown", "focusin"]) {
         addEventListener(kind, () => page.wake(), true);
     }
@@ -512,7 +512,7 @@ function listenToWindow(page) {
             page.open(files);
         }
     });
-    // Space and arrows work where no control that has the focus needs them.
+    // Space and arrow keys work unless the focused control needs them.
     addEventListener("keydown", (event) => {
         const steps = new Map([["ArrowLeft", -STEP_SECONDS], ["ArrowRight", STEP_SECONDS]]);
         const isTaken = event.target.closest?.("button, input, select, a, summary") !== null;

@@ -1,4 +1,4 @@
-// What is played: the packs of a .cdg file, or the blocks of a stream, in which damage is seen.
+// What is played: the packs of a .cdg file, or the blocks of a stream, whose damage is shown.
 import { BLOCKS_A_SECOND, BLOCK_BYTES, MOST_LEAD_IN, PACKS_A_SECOND, PACK_BYTES } from "../../lib/web/ribjasper.mjs";
 import { Breath } from "./breath.mjs";
 import { bytesOfBlob, formNamed, formOf, leadInOfSurvey, subcodeOf } from "./detect.mjs";
@@ -14,7 +14,7 @@ export const clock = (seconds) => {
     return `${String(Math.floor(whole / 60)).padStart(2, "0")}:${String(whole % 60).padStart(2, "0")}`;
 };
 
-/** Goes through a stream once, so that its marks are set and each place is near one. */
+/** Plays a stream once to set its marks, so that a mark is near each place. */
 async function passThrough(seeker, breath) {
     const step = Math.ceil(seeker.length / STEPS);
     for (let at = 0; at < seeker.length; at += step) {
@@ -26,7 +26,7 @@ async function passThrough(seeker, breath) {
 
 const piecesFor = (count) => Array.from({ length: Math.min(PIECES, count) }, () => ({ drawn: 0, corrected: 0, bad: 0, all: 0 }));
 
-/** A .cdg file: packs, 300 a second. */
+/** A .cdg file: packs, 300 per second. */
 class Packs {
     rate = PACKS_A_SECOND;
     leadIn = 0;
@@ -45,7 +45,7 @@ class Packs {
         return formNamed("cdg").told;
     }
 
-    /** How much is drawn, in pieces of the time. */
+    /** The share of drawing packs in each piece of the time. */
     async read(breath) {
         this.pieces = piecesFor(this.count);
         for (let k = 0; k < this.count; k += 1) {
@@ -61,7 +61,7 @@ class Packs {
         }
     }
 
-    /** Takes a player. */
+    /** Sets the player. */
     async start(breath) {
         this.seeker = this.ribjasper.seeker(this.bytes, { form: "cdg" });
         await passThrough(this.seeker, breath);
@@ -85,7 +85,7 @@ class Packs {
     }
 }
 
-/** A stream: blocks, 75 a second. Time zero is behind its lead-in. */
+/** A stream: blocks, 75 per second. Time zero is the end of its lead-in. */
 class Blocks {
     rate = BLOCKS_A_SECOND;
     hasDamage = true;
@@ -111,7 +111,7 @@ class Blocks {
         return this.count > 0;
     }
 
-    /** Surveys the stream; with the lead-in that is given, or else that which Q tells. */
+    /** Surveys the stream with the given lead-in, or otherwise with the one from Q. */
     async read(breath, leadIn) {
         this.survey = await this.#surveyed(breath, leadIn ?? 0);
         this.source = leadIn === undefined ? "Q" : "you";
@@ -136,7 +136,7 @@ class Blocks {
         }
     }
 
-    /** Takes a player, behind the lead-in that was read last. */
+    /** Sets the player, with the lead-in that was surveyed last. */
     async start(breath) {
         this.seeker?.close();
         this.seeker = this.ribjasper.seeker(this.bytes, this.options);
@@ -180,7 +180,7 @@ class Blocks {
     }
 }
 
-/** What a file is, as something to play. `onward` is called with the share that is read. */
+/** A file as something to play. `onward` is called with the share that has been read. */
 export async function sourceOf(ribjasper, entry, onward) {
     const blob = await entry.blob();
     const { form, skip } = entry.ending === "cdg" ? { form: formNamed("cdg"), skip: 0 } : await foundForm(ribjasper, entry, blob);

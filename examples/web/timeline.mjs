@@ -1,9 +1,9 @@
-// The line of time: a slider that also shows where the stream draws, and where it is damaged.
+// The timeline: a slider that also shows where the stream draws, and where it is damaged.
 
 const STEP = 5;
 const LONG_STEP = 30;
 
-/** Seconds as they are read aloud. */
+/** Seconds in words, for screen readers. */
 export function spoken(seconds) {
     const whole = Math.max(0, Math.floor(seconds));
     const [minutes, rest] = [Math.floor(whole / 60), whole % 60];
@@ -18,11 +18,11 @@ export class Timeline {
     #length = 0;
     #now = 0;
     #jump;
-    // The pieces as they were drawn last, and what they were drawn for.
+    // The pieces as they were last drawn, and the data from which they were drawn.
     #layer = document.createElement("canvas");
     #drawn = "";
 
-    /** `jump` is called with the second that the user wants. */
+    /** Calls `jump` with the second that the user chooses. */
     constructor(canvas, jump) {
         this.#canvas = canvas;
         this.#jump = jump;
@@ -58,7 +58,7 @@ export class Timeline {
         }
     }
 
-    /** What is shown: pieces of the graphics, their seconds, and the seconds of all. */
+    /** The data that is shown: pieces of the graphics, their length in seconds, and the total length. */
     show(pieces, graphics, length) {
         this.#pieces = pieces;
         this.#graphics = graphics;
@@ -103,7 +103,7 @@ export class Timeline {
         const all = this.#length === 0 ? 0 : (width * this.#graphics) / this.#length;
         const columns = Math.floor(all);
         const colours = { drawn: colour("drawn"), corrected: colour("corrected"), bad: colour("bad") };
-        // What was corrected grows from below, what is bad hangs from above.
+        // Corrected words are drawn from the bottom up, bad ones from the top down.
         for (let x = 0; x < columns; x += 1) {
             const piece = this.#between(x / columns, (x + 1) / columns);
             const tall = (count) => (count === 0 ? 0 : Math.max(2, Math.round((height * count) / piece.all)));
@@ -118,7 +118,7 @@ export class Timeline {
         }
     }
 
-    /** The sum of the pieces between two shares of the time, one piece at least. */
+    /** The sum of the pieces between two shares of the time, at least one piece. */
     #between(from, to) {
         const count = this.#pieces.length;
         const first = Math.min(count - 1, Math.floor(from * count));

@@ -1,12 +1,12 @@
-// The time of playback: that of the sound while it plays, else that of the clock.
+// The time of playback: the time of the sound while it plays, and otherwise the time of a clock.
 
-/** Seconds of playback. The graphics, and the sound if there is one, may each be the longer. */
+/** The time of playback in seconds. Either the graphics or the sound (if there is one) may be longer. */
 export class Transport {
     #sound = null;
     #address = "";
     // The second of the sound at which the graphics begin.
     #offset = 0;
-    // Whether the sound is that of the stream itself, with the same lead-in.
+    // Whether the sound comes from the stream, with the same lead-in.
     #follows = false;
     #isOver = true;
     #position = 0;
@@ -16,11 +16,11 @@ export class Transport {
     #volume = 1;
     #failed;
 
-    /** `changed` is called when the length of the sound becomes known or the sound ends, `failed` if it cannot be played. */
+    /** Calls `changed` when the length of the sound is known or the sound ends, and `failed` if it cannot be played. */
     constructor(changed, failed) {
         this.changed = changed;
         this.#failed = failed;
-        /** The seconds of the graphics. */
+        /** The length of the graphics in seconds. */
         this.graphics = 0;
     }
 
@@ -40,7 +40,7 @@ export class Transport {
             : Math.max(0, this.#sound.currentTime - this.#offset);
     }
 
-    /** The seconds of the sound behind the beginning of the graphics, as far as they are known. */
+    /** The length of the sound from the beginning of the graphics on, if it is known. */
     get sounding() {
         const length = this.#sound?.duration ?? 0;
         return Number.isFinite(length) ? Math.max(0, length - this.#offset) : 0;
@@ -50,14 +50,14 @@ export class Transport {
         return Math.max(this.graphics, this.sounding);
     }
 
-    /** Whether nothing follows: neither graphics nor sound. */
+    /** Whether both graphics and sound have ended. */
     get isAtEnd() {
         return this.#isOver && this.now >= this.graphics;
     }
 
     /**
-     * Stops, and starts anew with graphics of so many seconds and a sound, or none. A sound that is that of the stream itself
-     * has the lead-in of the stream too, `offset` seconds.
+     * Stops, and starts again with graphics of this length and with a sound or none. A sound that comes from the stream
+     * includes the lead-in of the stream, `offset` seconds.
      */
     open(graphics, blob = null, offset = undefined) {
         this.pause();
@@ -82,14 +82,14 @@ export class Transport {
         sound.volume = this.#volume;
         sound.defaultPlaybackRate = this.#rate;
         sound.playbackRate = this.#rate;
-        // Without controls it is not shown.
+        // Without controls, the element is hidden.
         document.body.append(sound);
         this.#sound = sound;
         this.#isOver = false;
         this.seek(0);
     }
 
-    // What an earlier sound reports does not matter any more.
+    // Late events of an earlier sound are ignored.
     #of(sound, work) {
         if (sound === this.#sound) {
             work();
@@ -111,7 +111,7 @@ export class Transport {
         this.#drop();
     }
 
-    /** The clock goes on where the sound ended. */
+    /** The clock continues where the sound ended. */
     #end() {
         this.#position = Math.max(this.now, this.sounding);
         this.#since = performance.now();
@@ -130,7 +130,7 @@ export class Transport {
             return;
         }
         this.#sound.play().catch((error) => {
-            // A sound that is broken reports an error event, and one that was paused at once is no failure.
+            // A broken sound reports an error event; one that is paused at once has not failed.
             if (error.name === "NotAllowedError") {
                 this.pause();
                 this.changed();
@@ -163,7 +163,7 @@ export class Transport {
         }
     }
 
-    /** The graphics have another length now, and begin so many seconds later in the sound. */
+    /** Changes the length of the graphics, and their beginning in the sound. */
     move(graphics, seconds) {
         this.graphics = graphics;
         if (this.#follows) {

@@ -1,5 +1,5 @@
-// The files of a zip, which are unpacked only when they are read. The browser inflates (DecompressionStream); this reads the
-// directory and checks what it says: nothing that the file claims is believed without a bound.
+// The files in a zip, which are unpacked only when they are read. The browser inflates (DecompressionStream); this module reads
+// the directory and checks it: no value in the file is trusted without a limit.
 
 const END = 0x06054b50;
 const END_BYTES = 22;
@@ -17,11 +17,11 @@ const EXTRA_64 = 1;
 const [STORED, DEFLATED] = [0, 8];
 const METHODS = new Map([[1, "shrinking"], [6, "imploding"], [9, "Deflate64"], [12, "bzip2"], [14, "LZMA"], [20, "Zstandard"],
     [93, "Zstandard"], [95, "xz"], [96, "JPEG"], [97, "WavPack"], [98, "PPMd"], [99, "AES"]]);
-/** The largest file that is unpacked, the largest directory and the most files of it. */
+/** The largest file that is unpacked, the largest directory, and the greatest number of files. */
 export const MOST_UNPACKED = 512 * 2 ** 20;
 const MOST_DIRECTORY = 32 * 2 ** 20;
 const MOST_ENTRIES = 65_536;
-// Packed bytes are given to the browser in small slices, since each may become a thousand times as many.
+// Packed bytes are passed to the browser in small slices, because each may become a thousand times as long.
 const READ_AT_ONCE = 1 << 18;
 const SLICE = 1 << 14;
 
@@ -41,7 +41,7 @@ function crcOn(crc, bytes) {
     return ~value >>> 0;
 }
 
-/** An error that says what is wrong with a zip or a file of it. */
+/** An error about a zip or a file in it. */
 export class ZipError extends Error {}
 
 async function numbersAt(blob, from, size) {
@@ -51,7 +51,7 @@ async function numbersAt(blob, from, size) {
     return new DataView(await blob.slice(from, from + size).arrayBuffer());
 }
 
-/** A number of eight bytes that JavaScript holds exactly. */
+/** An eight-byte number that JavaScript can represent exactly. */
 function wide(numbers, at) {
     const value = Number(numbers.getBigUint64(at, true));
     if (!Number.isSafeInteger(value)) {
@@ -60,7 +60,7 @@ function wide(numbers, at) {
     return value;
 }
 
-/** Whether a file begins or ends as a zip. */
+/** Whether a file begins or ends like a zip. */
 export async function isZip(blob) {
     if (blob.size < END_BYTES) {
         return false;
@@ -103,7 +103,7 @@ async function findEnd64(blob, end) {
     if (locator.getUint32(0, true) !== LOCATOR) {
         return null;
     }
-    // Bytes in front of the zip move the record away from where the locator says; then it is right in front of the locator.
+    // Bytes before the zip move the record away from the place in the locator; then the record is directly before the locator.
     const places = [wide(locator, 8), end.at - LOCATOR_BYTES - END_64_BYTES];
     for (const at of places.filter((it) => it >= 0 && it + END_64_BYTES <= end.at)) {
         const numbers = await numbersAt(blob, at, END_64_BYTES);
@@ -114,7 +114,7 @@ async function findEnd64(blob, end) {
     throw new ZipError("the zip64 record of the zip is missing");
 }
 
-/** The files of a zip: name, size, and `blob()`, which unpacks. Folders, and what macOS adds, are left out. */
+/** The files in a zip: name, size, and `blob()`, which unpacks. Folders and additions of macOS are left out. */
 export async function zipFiles(blob) {
     const short = await findEnd(blob);
     if (short === null) {
@@ -140,7 +140,7 @@ export async function zipFiles(blob) {
     return files;
 }
 
-/** The directory, which ends where the record begins. Bytes in front of the zip, as of a program, move all offsets. */
+/** The directory, which ends where the record begins. Bytes before the zip, for example of a program, move all offsets. */
 async function directoryOf(blob, end) {
     for (const start of [end.at - end.size, end.offset]) {
         const before = start - end.offset;
@@ -181,7 +181,7 @@ function readEntry(directory, at, before) {
     return [entry, size];
 }
 
-/** Names are UTF-8; those of old programs are not, and are read as Latin-1. */
+/** A file name: UTF-8, or Latin-1 if it is not UTF-8, as from old programs. */
 function nameOf(bytes) {
     try {
         return new TextDecoder("utf-8", { fatal: true }).decode(bytes);
@@ -190,7 +190,7 @@ function nameOf(bytes) {
     }
 }
 
-/** Of the sizes of zip64, those are there whose short fields are full. */
+/** The sizes of zip64 are present only if their short fields have the highest value. */
 function readWide(entry, directory, from, length) {
     for (let at = from; at + 4 <= from + length;) {
         const [kind, size] = [directory.getUint16(at, true), directory.getUint16(at + 2, true)];
@@ -222,7 +222,7 @@ class ZipFile {
         this.size = entry.size;
     }
 
-    /** Why the file cannot be unpacked, or "". */
+    /** The reason why the file cannot be unpacked, or "". */
     get why() {
         const { flags, method, size } = this.#entry;
         if (flags & 1) {
@@ -263,7 +263,7 @@ class ZipFile {
         return this.#zip.slice(from, from + packed);
     }
 
-    /** Reads a stream to its end, and checks its length and its CRC. A longer one is left where the length is reached. */
+    /** Reads a stream to its end, and checks its length and its CRC. Reading stops as soon as the stream is too long. */
     async #checked(stream, keep) {
         const { size, crc } = this.#entry;
         const reader = stream.getReader();

@@ -1,7 +1,7 @@
 #!/bin/sh
-# The examples in C++, Python and Rust on the shared library: their screens are those of the command `screen`, byte for
-# byte, at moments that are reached on and back. Skipped where what make builds is missing; each example is skipped where
-# its compiler is.
+# The examples in C++, Python and Rust on the shared library: their screens equal those of the command `screen`, byte for
+# byte, after seeking forward and back. Skipped if something that make builds is missing; each example is skipped if its
+# compiler is missing.
 set -e
 cd "$(dirname "$0")/../.."
 top=$PWD
@@ -21,7 +21,7 @@ done
 export LD_LIBRARY_PATH="$top/lib"
 failed=0
 
-# compare NAME MOMENTS COMMAND ..: runs an example in a folder of its own, and compares its screens.
+# compare NAME MOMENTS COMMAND ..: runs an example in its own folder, and compares its screens.
 compare() {
     name=$1 order=$2
     shift 2

@@ -1,13 +1,13 @@
 #!/bin/sh
-# What lib/libribjasper.a does for programs in C. Builds examples/player.c on it, as C and as C++, and
-# compares its screens with those of the command `screen`, byte for byte, at ten moments of the stream of
-# the tour: fed as blocks and drawn as packs. A stream with twenty blocks lost has to be noticed. Runs
-# tests/library/test_library.c, test_mend.c, test_plan.c, test_desk_calls.c, test_pixels.c, test_seeking.c, test_parity.c and test_sheets.c, and all of it
-# once under the address sanitizer if that is available. tests/library/test_closed.c looks at closed players,
-# tests/library/test_given_back.c counts what the calls allocate and free, and tests/library/test_threads.sh looks at one player
-# from eight threads. Skipped if a compiler or what make builds is missing.
-# With the argument `measure` it also prints how many blocks a second the player takes, how long a block and a pack take one by
-# one and in one call, and how long pictures take beside plain C.
+# Tests lib/libribjasper.a from programs in C. Builds examples/player.c with it, as C and as C++, and compares its screens
+# with those of the command `screen`, byte for byte, at ten places of the stream of the tour: fed as blocks and drawn as
+# packs. A stream with twenty lost blocks must make a difference. Runs tests/library/test_library.c, test_mend.c,
+# test_plan.c, test_desk_calls.c, test_pixels.c, test_seeking.c, test_parity.c and test_sheets.c, and all of these once
+# with the address sanitizer if that is available. tests/library/test_closed.c tests closed players,
+# tests/library/test_given_back.c counts what the calls allocate and free, and tests/library/test_threads.sh reads one
+# player in eight threads. Skipped if a compiler or something that make builds is missing. With the argument `measure` it
+# also prints how many blocks per second the player processes, the time of a block and of a pack, one by one and in one
+# call, and the time of pictures beside plain C.
 set -e
 cd "$(dirname "$0")/../.."
 top=$PWD
@@ -77,7 +77,7 @@ for blocks in $moments; do
         failed=1
     fi
 done
-# Programs that were made with the header of 1.1.0 run on this library.
+# Programs that were compiled with the header of 1.1.0 run with this library.
 older="-O2 -Wall -Wextra -Werror -std=c99 -I$top/tests/library/older"
 cc $older "$top/examples/player.c" -L"$top/lib" -lribjasper -o player_of_older
 cc $older "$top/tests/library/test_library.c" "$top/lib/libribjasper.a" $wrap -o test_library_of_older

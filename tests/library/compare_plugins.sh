@@ -21,14 +21,14 @@ cp examples/hello.cue examples/hello.script "$work"
 cd "$work"
 "$top/bin/ribjasper" author --lead-in 30 --length 00:22:00 -- hello.cue hello.script >stream.raw
 "$top/bin/ribjasper" convert --lead-in 30 <stream.raw >song.cdg
-# screen shows all but the last seven packs: with one pack in front and two blocks behind it shows 4 k packs of the file at block
-# k + 2.
+# `screen` shows all packs except the last seven: with one pack before the file and two blocks behind it, it shows 4 k packs of
+# the file at block k + 2.
 { head -c 24 /dev/zero; head -c $((1798 * 96)) song.cdg; head -c $((96 * 3 - 24)) /dev/zero; } >shifted.cdg
 time_of() { printf '%02d:%02d:%02d' $(($1 / 4500)) $(($1 / 75 % 60)) $(($1 % 75)); }
 cd "$top"
 
-# same_frames WHAT FILE BLOCKS LATER WORD ..: picture k of the raw RGB pictures is what `screen` with these words shows of FILE at
-# block k + LATER.
+# same_frames WHAT FILE BLOCKS LATER WORD ..: picture k of the raw RGB pictures equals the output of `screen` with these words
+# for FILE at block k + LATER.
 same_frames() {
     what=$1 file=$work/$2 blocks=$3 later=$4
     shift 4
@@ -56,7 +56,7 @@ else
     }
     play stream.raw "ribjasperdec layout=raw lead-in=30"
     mv "$work/frames" "$work/all"
-    # Blocks of the lead-in are pictures too, and black ones.
+    # Blocks of the lead-in are pictures too, all of them black.
     tail -c +$((194400 * 30 + 1)) "$work/all" >"$work/frames"
     same_frames "GStreamer, a raw stream" stream.raw 1800 0 --lead-in 30
     play song.cdg ribjasperdec

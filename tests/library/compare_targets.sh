@@ -1,8 +1,8 @@
 #!/bin/sh
-# The libraries and programs for other systems beside those of this machine: what `make library TARGET=..` and `make program
-# TARGET=..` left in lib/ and bin/. The Windows ones run under wine, those for 64-bit ARM under qemu-user: all of
-# tests/library, the player's screens, all rows (crates/rows), the refusals and sentences of docs/FORMATS.md, and random
-# command lines beside bin/ribjasper. Libraries for macOS, iOS and Android are looked at and never run. What is missing is
+# Compares the libraries and programs for other systems with those of this machine: the files that `make library TARGET=..` and
+# `make program TARGET=..` left in lib/ and bin/. Those for Windows run in wine, those for 64-bit ARM in qemu-user: all of
+# tests/library, the screens of the player, all rows (crates/rows), the refusals and sentences of docs/FORMATS.md, and random
+# command lines beside bin/ribjasper. Libraries for macOS, iOS and Android are only inspected. Missing files and tools are
 # skipped. With the argument `measure` a block and a picture are also measured, beside the native library.
 set -e
 cd "$(dirname "$0")/../.."
@@ -13,7 +13,7 @@ kit=$(dirname "$(readlink -f "$(command -v rt)")")/..
 work=$(mktemp -d)
 trap 'rm -rf "$work"' EXIT
 strict="-O2 -Wall -Wextra -Werror -I$top/include"
-# A prefix of wine takes half a minute to make, so it is kept.
+# Making a prefix of wine takes half a minute, so it is kept.
 export WINEPREFIX="${WINEPREFIX:-${XDG_CACHE_HOME:-$HOME/.cache}/ribjasper/wine}" WINEDEBUG=-all DISPLAY= LC_ALL=C.UTF-8
 mkdir -p "${WINEPREFIX%/*}"
 number=$(sed 's/-dev$//' VERSION)
@@ -48,7 +48,7 @@ llvm() {
     "$work/tools/$tool" "$@"
 }
 
-# same_screens PLAYER ..: the player's screens are those of the program.
+# same_screens PLAYER ..: the screens of the player equal those of the program.
 same_screens() {
     rm -rf "$work/screens"
     mkdir "$work/screens"
@@ -58,8 +58,8 @@ same_screens() {
     done
 }
 
-# run_library NAME CC CXX RUNNER END: all of tests/library over the static library of a target, whose heap is watched: its calls
-# of malloc, realloc and free go to functions that count, those of the C library itself do not.
+# run_library NAME CC CXX RUNNER END: runs all of tests/library with the static library of a target. The library's calls of
+# malloc, realloc and free go to functions that count; those of the C library itself do not.
 run_library() {
     name=$1 cc=$2 cxx=$3 run=$4 end=$5 folder=$work/$1
     mkdir "$folder"
@@ -92,7 +92,7 @@ run_library() {
     echo "compare_targets: $name: tests/library runs, as C and C++, and ten screens are equal"
 }
 
-# run_program NAME PROGRAM ROWS RUNNER: the program of a target beside the one of this machine.
+# run_program NAME PROGRAM ROWS RUNNER: compares the program of a target with that of this machine.
 run_program() {
     name=$1 program=$top/$2 rows=$top/$3 run=$4
     printf '#!/bin/sh\nexec %s "%s" "$@"\n' "$run" "$program" >"$work/program"
@@ -110,7 +110,7 @@ run_program() {
     echo "compare_targets: $name: $(tail -n 1 "$work/told")"
 }
 
-# The header, for each system's compiler: the layout of its structs, in C and C++.
+# The header with the compiler of each system: the layout of its structs, in C and C++.
 freestanding="-ffreestanding -nostdlibinc -fsyntax-only -Wall -Wextra -Werror -Iinclude -DLAYOUT_ONLY"
 if command -v clang >/dev/null; then
     for triple in x86_64-pc-windows-msvc x86_64-w64-windows-gnu aarch64-linux-gnu x86_64-apple-macos11 arm64-apple-macos11 \
@@ -131,8 +131,8 @@ elif ! command -v wine x86_64-w64-mingw32-gcc x86_64-w64-mingw32-g++ >/dev/null;
     echo "compare_targets: $windows is skipped, there is no wine or no mingw"
 else
     run_library $windows x86_64-w64-mingw32-gcc x86_64-w64-mingw32-g++ wine .exe
-    # The library at run time, by the import library of mingw and by that of MSVC, and the static one of MSVC, for whose
-    # function of large frames mingw has one of the same convention.
+    # The library at run time, with the import libraries of mingw and of MSVC, and the static library of MSVC; for the function
+    # that MSVC calls for large frames, mingw has one with the same calling convention.
     for import in libribjasper.dll.a ribjasper.lib; do
         x86_64-w64-mingw32-gcc $strict -std=c99 examples/player.c lib/$windows/$import -o "$work/player.exe"
         cp lib/$windows/ribjasper.dll "$work"
@@ -170,7 +170,7 @@ else
     fi
 fi
 
-# What is built and cannot run here: its names are those of the header, and it is of the right format.
+# Libraries that cannot run here: their names are those of the header, and their format is right.
 calls=$(grep -oE '\bribjasper_[a-z0-9_]+\(' include/ribjasper.h | tr -d '(' | sort -u)
 for name in x86_64-apple-darwin:mach-o aarch64-apple-darwin:mach-o aarch64-apple-ios:mach-o aarch64-linux-android:elf64; do
     library=lib/${name%:*}/libribjasper.a

@@ -1,12 +1,12 @@
-/* How long the library takes for a block or a pack, in a call for each and in one call for all. It reads the blocks of a
-   raw stream and the packs of a .cdg file, and feeds or draws all of them in many rounds, once in each way in turn. Of
-   each way it prints the least and the median time; both ways must show the same screen.
+/* Measures the time of the library for a block or a pack, with one call for each and with one call for all. It reads the
+   blocks of a raw stream and the packs of a .cdg file, and feeds or draws all of them in many rounds, in each way in turn.
+   For each way it prints the least and the median time; both ways must show the same screen.
 
    cc -O2 -Iinclude tests/library/measure_feeding.c lib/libribjasper.a -o measure_feeding
    ./measure_feeding stream.raw packs.cdg
 
-   `./measure_feeding stream.raw packs.cdg once WAY` does one round of one way (feed, feed_all, draw, draw_all or none), for
-   a tool that counts instructions. */
+   `./measure_feeding stream.raw packs.cdg once WAY` does one round in one way (feed, feed_all, draw, draw_all or none),
+   for a tool that counts instructions. */
 #include "ribjasper.h"
 
 #include <stdio.h>

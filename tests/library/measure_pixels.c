@@ -1,14 +1,14 @@
-/* How long the library takes for a picture in each format, beside plain C (tests/library/plain_pixels.c) that two compilers made with
-   -O3: each in turn, in many rounds, and of each the least and the median round. Its bytes are compared with those of the plain C.
+/* Measures the time of the library for a picture in each format, beside plain C (tests/library/plain_pixels.c) compiled by two
+   compilers with -O3: in turn, in many rounds, with the least and the median round of each. The bytes are compared too.
 
    gcc -O3 -DPLAIN=plain_by_gcc -Iinclude -c tests/library/plain_pixels.c -o by_gcc.o
    clang -O3 -DPLAIN=plain_by_clang -Iinclude -c tests/library/plain_pixels.c -o by_clang.o
    cc -O2 -Iinclude tests/library/measure_pixels.c by_gcc.o by_clang.o lib/libribjasper.a -o measure_pixels && ./measure_pixels
 
-   With the argument `runs` and a number it does all that so many times and prints of each line, over all runs, the median time
-   of ours and the least, median and greatest ratio to each compiler, once by the least rounds and once by the median rounds.
-   With `once` and the number of a line it makes that picture a hundred times with each of the three, for a tool that counts
-   their instructions. */
+   With the argument `runs` and a number it repeats all that, and prints for each line, over all runs, the median time of the
+   library and the least, median and greatest ratio to each compiler, once for the least rounds and once for the median rounds.
+   With `once` and the number of a line it makes that picture a hundred times in each of the three ways, for a tool that counts
+   instructions. */
 #include "plain_pixels.h"
 
 #include <stdio.h>
@@ -38,7 +38,7 @@ static int by_size(const void *one, const void *other)
     return (a > b) - (a < b);
 }
 
-/* Of times, in order: the least, the median and the greatest. */
+/* The least, the median and the greatest of some times, which are sorted. */
 struct spread {
     double least, median, greatest;
 };
@@ -116,7 +116,7 @@ static void make(const struct line *it, int maker)
     __asm__ volatile("" : : : "memory");
 }
 
-/* How long each maker takes for a line: the rounds of all of them in turn. */
+/* Measures all three ways for a line, in turn. */
 static void measure(const struct line *it, struct spread spreads[MAKERS])
 {
     static double times[MAKERS][ROUNDS];

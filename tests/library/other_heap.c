@@ -1,10 +1,11 @@
-/* The heap of another library of the same kit: the three functions that its proved part calls, over malloc. A size of zero still has a
-   block, and a refused request has an address that is not null, for the proved part holds no null pointer. */
+/* The heap of another library that was built with the same kit: the three functions that its proved part calls, over malloc.
+   A request of size zero still gets a block, and a refused request gets an address that is not null, because the proved part
+   has no null pointers. */
 #include <stdbool.h>
 #include <stddef.h>
 #include <stdlib.h>
 
-/* Whether there is a block, and where. */
+/* Whether there is a block, and its address. */
 typedef struct tried {
     bool ok;
     void *p;
@@ -22,7 +23,7 @@ static tried found(void *block)
     return result;
 }
 
-/* The alignment divides 16, and malloc gives no less. */
+/* The alignment divides 16, and malloc returns blocks that are aligned to 16. */
 tried rattle_alloc(size_t size, size_t align)
 {
     return found(malloc(size != 0 ? size : align));

@@ -1,5 +1,5 @@
-/* A picture in plain C, for tests/library/measure_pixels.c to compare with: compiled once for each compiler, with -O3 and the name
-   that PLAIN gives. */
+/* A picture in plain C, with which tests/library/measure_pixels.c compares: compiled with -O3 by each compiler, under the name
+   in PLAIN. */
 #include "plain_pixels.h"
 
 #include <string.h>
@@ -7,7 +7,7 @@
 static int most(int one, int other) { return one > other ? one : other; }
 static int least(int one, int other) { return one < other ? one : other; }
 
-/* `width` pixels from `x` of row y of the screen: the border at the top and the bottom, else at both sides of the window. */
+/* `width` pixels from `x` on in row y of the screen: border at the top and the bottom, otherwise at both sides. */
 static void plain_row(const struct plain *it, int x, int y, int width, uint8_t *row)
 {
     int left = most(x, 6), right = least(x + width, 294);

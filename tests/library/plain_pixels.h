@@ -1,4 +1,4 @@
-/* What a player in plain C holds, and its picture as each compiler makes it. */
+/* The data of a player in plain C, and the picture as each compiler makes it. */
 #ifndef PLAIN_PIXELS_H
 #define PLAIN_PIXELS_H
 

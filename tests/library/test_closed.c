@@ -1,10 +1,10 @@
-/* A closed player as the header has it: to begin with, as a value, in lists and structs, static and not. Compiled in each
-   standard of C and C++; with STRICT without what strict C does not take, a static player that begins with the value. */
+/* A closed player in the ways of the header: at first, as a value, in lists and structs, static and not. Compiled in each
+   standard of C and C++; with STRICT without the static player that begins with the value, which strict C refuses. */
 #include "ribjasper.h"
 
 #include <stdio.h>
 
-/* Inside braces strict C89 takes constants alone. */
+/* Inside braces, strict C89 accepts only constants. */
 #if !defined __cplusplus && (!defined __STDC_VERSION__ || __STDC_VERSION__ < 199901L)
 #define IN_BRACES RIBJASPER_CLOSED_STATIC
 #else

@@ -1,7 +1,7 @@
-/* The calls that tell what stands in a stream and in its lead-in, and the one that counts it as it is fed, on streams that
-   are made here: the values come from docs/FORMATS.md. With three arguments, a stream, the blocks of its lead-in and what
-   `check` says of it, followed by what `text` says, the sums of the rows, a tally and the lines are compared with those of
-   the program. Linked with a heap that counts (testing.h). */
+/* The calls that describe a stream and its lead-in, and the tally of a stream that is fed, on streams that are made here: the
+   expected values come from docs/FORMATS.md. With three arguments (a stream, the number of its lead-in blocks, and the output
+   of `check` followed by that of `text`), the sums of the rows, a tally and the lines are compared with the program.
+   Linked with a heap that counts (testing.h). */
 #include "ribjasper.h"
 
 #include <stddef.h>
@@ -36,8 +36,8 @@ static void put_frame(uint8_t *block, const uint8_t frame[12])
         block[i] = (uint8_t)((block[i] & 0xbf) | ((frame[i / 8] >> (7 - i % 8) & 1) << 6));
 }
 
-/* The symbols of a word in their places: the positions 1 and 18, 2 and 5, 3 and 23 are exchanged, and the symbol at a
-   position goes as many slots later as the position's rest by eight. */
+/* The symbols of a word at their places: the positions 1 and 18, 2 and 5, 3 and 23 are exchanged, and the symbol at a
+   position is sent as many slots later as the remainder of the position modulo 8. */
 static void put_word(uint8_t *program, size_t n, const uint8_t word[24])
 {
     static const uint8_t to[24] = { 0, 18, 5, 23, 4, 2, 6, 7, 8, 9, 10, 11, 12, 13, 14, 15, 16, 17, 1, 19, 20, 21, 22, 3 };
@@ -54,7 +54,7 @@ static void blocks_of_zeros(void)
     ribjasper_surveyed told = { 7, 7 };
     CHECK(ribjasper_survey(stream, 0, RIBJASPER_RAW, 0, rows, 0, &told) == RIBJASPER_CONVERTED);
     CHECK(told.blocks == 0 && told.rest == 0);
-    /* Word 4 b - 7 is the first that ends with block b, and a stream that is torn has a rest. */
+    /* Word 4 b - 7 is the first that ends with block b; a torn stream has a rest. */
     for (size_t rest = 0; rest < 96; rest++) {
         memset(rows, 9, sizeof rows);
         CHECK(ribjasper_survey(stream, BYTES + rest, RIBJASPER_RAW, 0, rows, BLOCKS + 1, &told) == RIBJASPER_CONVERTED);
@@ -100,7 +100,7 @@ static void refused_surveys(void)
     CHECK(all_are(rows, sizeof rows, 9) && all_are(&told, sizeof told, 9));
 }
 
-/* A word of the program with some symbols wrong, in each form that has a delay. */
+/* A word of the program with some wrong symbols, in each form that is interleaved. */
 static void words_and_frames(void)
 {
     static const uint8_t preset[24] = { 9, 1, 0x3c, 0x34, 0, 0, 0, 0, 0, 0, 0, 0, 0, 0, 0, 0, 0, 0, 0, 0, 13, 7, 42, 32 };
@@ -128,7 +128,7 @@ static void words_and_frames(void)
             word[6 * wrong] ^= 1;
         put_word(stream, 1, word);
         CHECK(ribjasper_survey(stream, BYTES, RIBJASPER_RAW, 0, rows, BLOCKS, &told) == RIBJASPER_CONVERTED);
-        /* Word 1 ends with block 2, beside three idle ones. */
+        /* Word 1 ends with block 2, together with three idle words. */
         CHECK(counts_are(rows + 2, wrong == 0 ? 4 : 3, wrong == 1, wrong == 2, wrong == 3));
         CHECK(counts_are(rows, 0, 0, 0, 0) && counts_are(rows + 1, 1, 0, 0, 0) && counts_are(rows + 3, 4, 0, 0, 0));
         CHECK(frame_is(rows, RIBJASPER_Q_PROGRAM, 42, 3, 449999));
@@ -145,7 +145,7 @@ static void words_and_frames(void)
     }
 }
 
-/* A text pack with its check, which the library finds. */
+/* A text pack with its check, which the library computes. */
 static void seal(uint8_t pack[18])
 {
     for (unsigned sum = 0; sum < 65536 && ribjasper_text_pack_matches(pack) == 0; sum++) {
@@ -154,7 +154,7 @@ static void seal(uint8_t pack[18])
     }
 }
 
-/* Puts a pack in a quarter of a block, six bits in each symbol. */
+/* Writes a pack into a quarter of a block, six bits into each symbol. */
 static void put_pack(uint8_t *block, size_t quarter, const uint8_t pack[18])
 {
     for (size_t i = 0; i < 24; i++) {
@@ -165,7 +165,7 @@ static void put_pack(uint8_t *block, size_t quarter, const uint8_t pack[18])
     }
 }
 
-/* The title of an album and of its one track, in pack 0, and the three packs with the sizes. */
+/* The title of an album and that of its only track, in pack 0, and the three size packs. */
 static void make_lead_in(uint8_t block[96], uint8_t packs[4][18])
 {
     static const uint8_t title[18] = { 0x80, 0, 0, 0, 'D', 'e', 'm', 'o', 0, 'O', 'n', 'e', 0, 0, 0, 0, 0x51, 0xd3 };
@@ -186,7 +186,7 @@ static void make_lead_in(uint8_t block[96], uint8_t packs[4][18])
     }
 }
 
-/* Refused texts write no line and ask for no memory, so that they are told where malloc refuses too. */
+/* Refused texts write no line and allocate no memory, so they are reported even if malloc fails. */
 static void refuses_texts(const uint8_t stream[288], int32_t why, uint32_t seq, uint32_t byte)
 {
     uint8_t out[200];
@@ -220,7 +220,7 @@ static void lead_ins(void)
     memcpy(sector + 2352, stream, 96);
     CHECK(ribjasper_texts(sector, 2448, RIBJASPER_SECTORS, 7, out, size, &told) == RIBJASPER_CONVERTED && told.bytes == size);
 
-    /* What is refused writes no line, and tells nothing but of texts. */
+    /* A refused call writes no line, and only a fault of the texts. */
     memset(out, 9, sizeof out);
     memset(&told, 9, sizeof told);
     CHECK(ribjasper_texts(stream, 288, RIBJASPER_PACKS, 1, out, sizeof out, &told) == RIBJASPER_USAGE);
@@ -258,9 +258,9 @@ static void lead_ins(void)
     refuses_texts(stream, RIBJASPER_TEXT_MALFORMED, 1, 6);
 }
 
-/* The longest lines of a lead-in: all packs but the three with the sizes are of the kind with the longest name, the string
-   of the album has no byte that is printed as itself, and those of 99 tracks are tabs, each of which means the string
-   before it. */
+/* The longest lines of a lead-in: all packs except the three size packs have the kind with the longest name, the string of the
+   album has no byte that is printed unchanged, and the strings of 99 tracks are tabs, each of which means the previous
+   string. */
 static void longest_texts(void)
 {
     enum { PACKS = 256, TEXT = 12 * (PACKS - 3), STRING = TEXT - 1 - 2 * 99 };
@@ -308,7 +308,7 @@ static uint8_t *read_file(const char *name, size_t *length)
     return bytes;
 }
 
-/* A tally of a player that is fed block by block: the same numbers as those of the rows, told as `check` tells them. */
+/* A tally of a player that is fed block by block: the same numbers as in the rows, printed as `check` prints them. */
 static void tally_as_the_program_says(const uint8_t *stream, size_t blocks, uint32_t lead_in, const char *wanted)
 {
     ribjasper_player player = RIBJASPER_CLOSED;
@@ -343,7 +343,7 @@ static void tally_as_the_program_says(const uint8_t *stream, size_t blocks, uint
     ribjasper_player_close(&player);
 }
 
-/* The limits of a tally: blocks of packs have no frames, a lead-in no packs, and a count stays at its last value. */
+/* The limits of a tally: blocks of packs have no frames, a lead-in has no packs, and a count saturates. */
 static void tallies(void)
 {
     static const uint8_t nothing[96] = { 0 };
@@ -378,7 +378,7 @@ static void tallies(void)
     CHECK(held == before);
 }
 
-/* The sums of the rows are what `check` says, and the lines what `text` says. */
+/* The sums of the rows equal the output of `check`, and the lines that of `text`. */
 static void as_the_program_says(const char *stream_name, uint32_t lead_in, const char *check_name, const char *text_name)
 {
     size_t length, check_length, text_length;

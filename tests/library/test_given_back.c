@@ -1,5 +1,5 @@
-/* That the calls give back what memory they asked for: over thousands of sheets and scripts that are refused or planned, of
-   players that are saved or refused, and of files that are no checkpoints. Linked with a heap that counts (testing.h).
+/* The calls free all memory that they allocate: over thousands of sheets and scripts that are refused or planned, of players
+   that are saved or refused, and of files that are no checkpoints. Linked with a heap that counts (testing.h).
 
    test_given_back SHEET SCRIPT STREAM */
 #include "ribjasper.h"
@@ -21,7 +21,7 @@ static size_t read_file(const char *name, uint8_t *to, size_t room)
     return count;
 }
 
-/* Each beginning of a text, and the text with one byte changed in turn. */
+/* Each prefix of a text, and the text with each byte changed in turn. */
 static void texts(size_t sheet_size, size_t script_size)
 {
     long refusals = 0, calls = 0;
@@ -87,7 +87,7 @@ static void players(void)
     CHECK(held == 0);
 }
 
-/* The texts of a lead-in with bytes changed: told or refused. */
+/* The texts of a lead-in with changed bytes: listed or refused. */
 static void lead_ins(size_t blocks)
 {
     ribjasper_listed listed;

@@ -1,5 +1,5 @@
-/* How the structs of include/ribjasper.h lie in memory, as other languages that call the library take it, that the header
-   can be used as it is in each standard of C and C++, and that the calls which only look take a const player. */
+/* The layout of the structs of include/ribjasper.h, as other languages that call the library use it. The header compiles
+   unchanged in each standard of C and C++, and calls that only read a player accept a const player. */
 #include "ribjasper.h"
 
 #include <stddef.h>
@@ -116,9 +116,9 @@ HOLDS(listed, sizeof(ribjasper_listed) == 16);
 LIES(ribjasper_listed, seq, 8);
 LIES(ribjasper_listed, byte, 12);
 
-/* With LAYOUT_ONLY this much is compiled for a system whose C library is not at hand. */
+/* With LAYOUT_ONLY, only this is compiled, for a system whose C library is missing. */
 #ifndef LAYOUT_ONLY
-/* How many of the calls that only look answer this of a player. */
+/* The number of calls that only read a player and have this answer. */
 static int answers(const ribjasper_player *player, ribjasper_player *other, int32_t answer)
 {
     static uint8_t pixels[RIBJASPER_PIXELS], picture[RIBJASPER_PICTURE], file[RIBJASPER_CHECKPOINT];

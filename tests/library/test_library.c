@@ -1,10 +1,10 @@
-/* Each call of the library on rows whose values come from docs/FORMATS.md and from the standards that it names, and
-   what each call refuses. Linked with a heap that counts (testing.h). */
+/* Each call of the library with values from docs/FORMATS.md and from the standards that it names, and the refusals of each
+   call. Linked with a heap that counts (testing.h). */
 #include "ribjasper.h"
 
 #include "testing.h"
 
-/* Whether all of these bytes are this one. */
+/* Whether all of these bytes have this value. */
 static int all_are(const uint8_t *bytes, size_t count, uint8_t value)
 {
     while (count > 0)
@@ -25,7 +25,7 @@ static void single_things(void)
     CHECK(ribjasper_correct(word, out) == 1 && memcmp(out, preset, 24) == 0);
     word[20] = 63;
     CHECK(ribjasper_correct(word, out) == 2 && memcmp(out, preset, 24) == 0);
-    /* Three equal changes of a codeword are near none. */
+    /* A codeword with three equal changes is near no codeword. */
     memset(word, 0, 24);
     word[0] = word[8] = word[16] = 1;
     memset(out, 7, 24);
@@ -64,7 +64,7 @@ static void q_frames(void)
     CHECK(ribjasper_q_decode(zeros, &frame, &bit) == RIBJASPER_BAD_CHECK && bit == 200);
     CHECK(ribjasper_q_decode(field, &frame, &bit) == RIBJASPER_BAD_FIELD && bit == 8);
     CHECK(memcmp(&kept, &frame, sizeof frame) == 0);
-    /* Block 150 of a disc of one track: its music begins. */
+    /* Block 150 of a disc with one track: its music begins. */
     frame.track = 1;
     frame.index = 1;
     frame.absolute = 150;
@@ -74,7 +74,7 @@ static void q_frames(void)
     frame.time = 0;
     frame.kind = 8;
     CHECK(ribjasper_q_encode(&frame, bytes) == RIBJASPER_REFUSED && memcmp(bytes, start, 12) == 0);
-    /* A catalogue number and a code come back as they were written. */
+    /* A catalogue number and a code are read as they were written. */
     frame.kind = RIBJASPER_Q_CATALOGUE;
     memcpy(frame.text, "1234567890123", 13);
     CHECK(ribjasper_q_encode(&frame, bytes) == RIBJASPER_DONE && bytes[0] == 2 && bytes[1] == 0x12 && bytes[7] == 0x30);
@@ -89,7 +89,8 @@ static void q_frames(void)
     CHECK(memcmp(frame.text, "DEA1B9912345", 13) == 0);
 }
 
-/* The entries of the table of contents, by their bytes: CONTROL and ADR, TNO, POINT, the running time, ZERO, and what POINT says. */
+/* The entries of the table of contents, from their bytes: CONTROL and ADR, TNO, POINT, the running time, ZERO, and the
+   value of POINT. */
 static void entries(void)
 {
     static const struct {
@@ -129,7 +130,7 @@ static void whole_streams(void)
     memset(packs, 7, sizeof packs);
     CHECK(ribjasper_convert(stream, 192, RIBJASPER_RAW, 0, packs, 24, &told) == RIBJASPER_CONVERTED);
     CHECK(told.bytes == 24 && told.blocks == 2 && told.bad == 0 && all_are(packs, 24, 0) && all_are(packs + 24, 168, 7));
-    /* Two and three wrong symbols of the first pack. */
+    /* The first pack with two and with three wrong symbols. */
     stream[50] = stream[100] = 1;
     memset(packs, 7, sizeof packs);
     CHECK(ribjasper_convert(stream, 192, RIBJASPER_RAW, 0, packs, 192, &told) == RIBJASPER_CONVERTED && told.bad == 0);
@@ -144,14 +145,14 @@ static void whole_streams(void)
     CHECK(told.bytes == 192);
     CHECK(ribjasper_convert(stream, 4896, RIBJASPER_SECTORS, 0, packs, 24, &told) == RIBJASPER_CONVERTED);
     CHECK(told.bytes == 24);
-    /* What is refused writes nothing. */
+    /* A refused call writes nothing. */
     memset(packs, 7, sizeof packs);
     CHECK(ribjasper_convert(stream, 100, RIBJASPER_RAW, 0, packs, 192, &told) == RIBJASPER_TORN);
     CHECK(ribjasper_convert(stream, 192, RIBJASPER_RAW, 0, packs, 23, &told) == RIBJASPER_NO_ROOM);
     CHECK(ribjasper_convert(stream, 192, 3, 0, packs, 192, &told) == RIBJASPER_USAGE);
     CHECK(ribjasper_convert(stream, 192, RIBJASPER_RAW, 450001, packs, 192, &told) == RIBJASPER_USAGE);
     CHECK(all_are(packs, 192, 7) && told.bytes == 24);
-    /* It asks for no memory. */
+    /* It allocates no memory. */
     refused = requests;
     number = requests;
     CHECK(ribjasper_convert(stream, 192, RIBJASPER_RAW, 0, packs, 192, &told) == RIBJASPER_CONVERTED);
@@ -159,7 +160,7 @@ static void whole_streams(void)
     CHECK(requests == number && held == 0 && all_are(packs, 24, 0));
 }
 
-/* A stream is torn at each length but those of whole units, in each form; each room that is too small is refused. */
+/* A stream of any length except that of whole units is torn, in each form; each buffer that is too small is refused. */
 static void edges_of_streams(void)
 {
     static uint8_t stream[3 * 2448], packs[400];
@@ -207,7 +208,7 @@ static void drawn_packs(void)
     long x, y, wrong = 0;
     CHECK(ribjasper_player_open(&player) == RIBJASPER_DONE && ribjasper_player_open(&second) == RIBJASPER_DONE);
     CHECK(ribjasper_player_picture(&player, picture) == RIBJASPER_DONE && all_are(picture, sizeof picture, 0));
-    /* Two tiles in the corner below, and all moved by a tile and by the greatest offsets. */
+    /* Two tiles in the lower corner, moved by one tile and by the greatest offsets. */
     draws(&player, 6, seven);
     draws(&player, 6, five);
     draws(&player, 24, scroll);
@@ -231,7 +232,7 @@ static void drawn_packs(void)
     CHECK(ribjasper_player_colour(&player, 16, &colour) == RIBJASPER_REFUSED && colour == 0x0f0);
     CHECK(ribjasper_player_picture(&player, picture) == RIBJASPER_DONE);
     CHECK(all_are(picture, 3, 0) && picture[3 * (300 * 12 + 6)] == 255 && picture[3 * (300 * 12 + 6) + 1] == 0);
-    /* The other player has a screen of its own. */
+    /* The other player has its own screen. */
     CHECK(ribjasper_player_picture(&second, picture) == RIBJASPER_DONE && all_are(picture, sizeof picture, 0));
     CHECK(ribjasper_player_begin(&player, RIBJASPER_RAW, 0) == RIBJASPER_DONE);
     CHECK(ribjasper_player_screen(&player, pixels) == RIBJASPER_DONE && all_are(pixels, sizeof pixels, 0));
@@ -240,7 +241,7 @@ static void drawn_packs(void)
     CHECK(held == 0);
 }
 
-/* What packs touch: of each instruction once. */
+/* The tiles that packs touch: each instruction once. */
 static void touched_parts(void)
 {
     uint8_t pack[24] = { 9 };
@@ -276,7 +277,7 @@ static void touched_parts(void)
     CHECK(ribjasper_pack_touches(pack) == RIBJASPER_TOUCHES_NOTHING);
 }
 
-/* A part of the screen is the same part of the whole, and each room that is too small is refused. */
+/* A part of the screen equals the same part of the whole screen, and each buffer that is too small is refused. */
 static void rectangles(void)
 {
     static const uint8_t tile[16] = { 1, 2, 3, 4, 0x2a, 0x15, 0x3f, 1, 2, 4, 8, 0x10, 0x20, 7, 0, 0x33 };
@@ -309,8 +310,8 @@ static void rectangles(void)
     CHECK(ribjasper_player_rect(&player, 0, 0, 1, 1, part, 1, 1) == RIBJASPER_REFUSED && held == 0);
 }
 
-/* A player draws for as long as it is fed: a tile that comes after more blocks than a program can have. Packs that are
-   drawn in between leave the stream as it is. */
+/* A player draws as long as it is fed: here a tile after more blocks than a program can have. Packs that are drawn in
+   between do not change the stream. */
 static void long_streams(void)
 {
     static const uint8_t five[24] = { 9, 1, 0, 0, 5 };
@@ -338,7 +339,7 @@ static void long_streams(void)
     CHECK(ribjasper_player_pixel(&player, 6, 12, &pixel) == RIBJASPER_DONE && pixel == 0);
     CHECK(ribjasper_player_draw(&player, five) == RIBJASPER_DONE);
     CHECK(ribjasper_player_pixel(&player, 6, 12, &pixel) == RIBJASPER_DONE && pixel == 5);
-    /* Opening it again keeps its memory, and begins anew. */
+    /* Opening it again keeps its memory, and begins a new stream. */
     fed = requests;
     refused = requests;
     CHECK(ribjasper_player_open(&player) == RIBJASPER_DONE && requests == fed && held == 1);
@@ -348,7 +349,7 @@ static void long_streams(void)
     CHECK(held == 0);
 }
 
-/* A player that goes back to where it was, and one that goes on as another: it shows and gathers the same from there. */
+/* A player that is restored, and one that continues as another: from there it shows and gathers the same. */
 static void saved_players(void)
 {
     static const uint8_t five[16] = { 5 };
@@ -367,7 +368,7 @@ static void saved_players(void)
     CHECK(ribjasper_player_copy(&player, &back) == RIBJASPER_REFUSED);
     CHECK(ribjasper_player_copy(&back, &player) == RIBJASPER_REFUSED);
     CHECK(ribjasper_player_open(&back) == RIBJASPER_DONE);
-    /* One block of the lead-in came, and one of the program, which begins a word. */
+    /* One block of the lead-in was fed, and one of the program, which begins a word. */
     CHECK(ribjasper_player_begin(&player, RIBJASPER_RAW, 1) == RIBJASPER_DONE);
     CHECK(ribjasper_player_feed(&player, second) == RIBJASPER_DONE);
     CHECK(ribjasper_player_feed(&player, first) == RIBJASPER_DONE);
@@ -378,7 +379,7 @@ static void saved_players(void)
     CHECK(all_are(file + 20, 124, 0) && file[24 + 168 - 46] == 1 && file[192] == 5);
     CHECK(ribjasper_player_take(&player, second, packs) == 1 && packs[0].wrong == -1);
     CHECK(ribjasper_player_save(&player, again) == RIBJASPER_DONE && again[19] == 2 && again[23] == 1);
-    /* It is brought back, by another player and by itself, and the block that came then gives the same word. */
+    /* Another player and the player itself are restored, and the next block completes the same word. */
     CHECK(ribjasper_player_load(&back, file, &byte) == RIBJASPER_DONE && byte == 7 && held == 2);
     CHECK(ribjasper_player_screen(&player, one) == RIBJASPER_DONE);
     CHECK(ribjasper_player_screen(&back, other) == RIBJASPER_DONE);
@@ -386,7 +387,7 @@ static void saved_players(void)
     memset(packs, 0, sizeof packs);
     CHECK(ribjasper_player_take(&back, second, packs) == 1 && packs[0].wrong == -1 && packs[0].symbols[4] == 1);
     CHECK(ribjasper_player_save(&back, file) == RIBJASPER_DONE && memcmp(file, again, sizeof file) == 0);
-    /* A copy gathers the same, and does not change with the other. */
+    /* A copy gathers the same, and does not change with the original. */
     CHECK(ribjasper_player_begin(&back, RIBJASPER_RAW, 0) == RIBJASPER_DONE);
     CHECK(ribjasper_player_feed(&back, first) == RIBJASPER_DONE);
     number = requests;
@@ -394,7 +395,7 @@ static void saved_players(void)
     CHECK(ribjasper_player_begin(&back, RIBJASPER_PACKS, 0) == RIBJASPER_DONE);
     CHECK(ribjasper_player_pixel(&player, 6, 12, other) == RIBJASPER_DONE && other[0] == 0);
     CHECK(ribjasper_player_take(&player, second, packs) == 1 && packs[0].wrong == -1);
-    /* What is no checkpoint is refused at its first byte, and a player of packs at once: no memory is asked before. */
+    /* An invalid file is refused at its first byte, and a player of packs at once, before any memory is allocated. */
     number = refused = requests;
     CHECK(ribjasper_player_save(&back, again) == RIBJASPER_REFUSED);
     file[200] = 16;
@@ -413,8 +414,8 @@ static void saved_players(void)
     CHECK(held == 0);
 }
 
-/* Offsets and levels come back from a checkpoint, and are those of a copy. Of a stream that begins anew nothing is saved that
-   the one before has left. */
+/* Offsets and levels are restored from a checkpoint, and copied. A player that begins a new stream saves nothing of the
+   previous one. */
 static void saved_settings(void)
 {
     static const uint8_t scroll[16] = { 0, 0x15, 0x1b };
@@ -444,7 +445,7 @@ static void saved_settings(void)
     CHECK(held == 0);
 }
 
-/* A raw stream of 1,000,000 blocks is saved, and a longer one is refused: no memory is asked before. */
+/* A raw stream of 1,000,000 blocks is saved, and a longer one is refused before any memory is allocated. */
 static void long_players(void)
 {
     static const uint8_t block[96] = { 0 };
@@ -483,7 +484,7 @@ static void taken_blocks(void)
     CHECK(ribjasper_player_take(&player, second, packs) == 1 && packs[0].wrong == 2 && all_are(packs[0].symbols, 24, 0));
     CHECK(all_are((const uint8_t *)(packs + 1), 3 * sizeof *packs, 7));
     CHECK(ribjasper_player_take(&player, second, packs) == 4);
-    /* After a reset no symbol of those blocks is left. */
+    /* After a reset, no symbol of those blocks remains. */
     CHECK(ribjasper_player_begin(&player, RIBJASPER_RAW, 0) == RIBJASPER_DONE);
     CHECK(ribjasper_player_take(&player, first, packs) == 0);
     second[54] = 1;
@@ -501,7 +502,7 @@ static void taken_blocks(void)
     CHECK(held == 0);
 }
 
-/* A closed player refuses every call, and nothing is written; an open one that gets no memory holds none. */
+/* A closed player refuses every call, and nothing is written; an open player that gets no memory has none. */
 static void closed_players(void)
 {
     static uint8_t bytes[RIBJASPER_PICTURE];

@@ -1,7 +1,7 @@
 #!/bin/sh
-# How the library is linked: its header in each standard of C and C++, the layout of its structs, the names that it
-# brings, and a program that finds it installed, by pkg-config and by CMake, at run time and for good. Skipped where a compiler or the library is
-# missing.
+# How programs link the library: its header in each standard of C and C++, the layout of its structs, the names that it
+# exports, and a program that finds the installed library, with pkg-config and with CMake, linked dynamically and statically.
+# Skipped if a compiler or the library is missing.
 set -e
 cd "$(dirname "$0")/../.."
 top=$PWD
@@ -12,7 +12,7 @@ done
 work=$(mktemp -d)
 trap 'rm -rf "$work"' EXIT
 version=$(cat VERSION)
-# What the library says, also between two releases.
+# The version of the library, also between two releases.
 number=${version%-dev}
 failed=0
 
@@ -21,7 +21,7 @@ complain() {
     failed=1
 }
 
-# The header, as it is, under all that compilers warn of.
+# The unchanged header, with all warnings of the compilers.
 strict="-Wall -Wextra -Wpedantic -Werror -Wno-long-long -Iinclude"
 for compiler in cc clang; do
     command -v $compiler >/dev/null || continue
@@ -43,7 +43,7 @@ for compiler in c++ clang++; do
     done
 done
 
-# No name but its own is seen from outside, so that it can stand beside another library of the same kit.
+# The library exports only its own names, so another library that was built with the same kit can be linked too.
 named=$(nm -g --defined-only lib/libribjasper.a | awk 'NF == 3 { print $3 }' | sort)
 [ -z "$(echo "$named" | grep -v '^ribjasper_')" ] || complain "libribjasper.a brings other names"
 seen=$(nm -D --defined-only lib/libribjasper.so.0 | awk '$2 == "T" { sub("@.*", "", $3); print $3 }' | sort)
@@ -53,12 +53,12 @@ declared=$(grep -oE '\bribjasper_[a-z_]+\(' include/ribjasper.h | tr -d '(' | so
     sort | uniq -u | tr '\n' ' ')"
 readelf -d lib/libribjasper.so.0 | grep -q 'SONAME.*\[libribjasper.so.0\]' || complain "the library has another soname"
 
-# A second library with a heap of its own, as another of the same kit has it, does not clash.
+# A second library with its own heap, like that of the same kit, does not clash.
 cc -c tests/library/other_heap.c -o "$work/heap.o"
 cc $strict tests/library/test_layout.c "$work/heap.o" lib/libribjasper.a -o "$work/beside"
 [ "$("$work/beside")" = "$number" ] || complain "the library for good tells another version than VERSION"
 
-# Installed where a distribution would put it, and found by pkg-config.
+# Installed as by a distribution, and found by pkg-config.
 libraries=/usr/lib/$(cc -dumpmachine)
 tools/build/install.sh "$work/root" /usr "$libraries" libribjasper0 libribjasper-dev
 installed="$work/root$libraries"

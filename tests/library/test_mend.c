@@ -12,7 +12,7 @@ enum { BLOCKS = 4, BYTES = 96 * BLOCKS, WORDS = 4 * BLOCKS - 7, ROOM = 24 * WORD
 static int failed;
 
 static const uint8_t preset[24] = { 9, 1, 0x3c, 0x34, 0, 0, 0, 0, 0, 0, 0, 0, 0, 0, 0, 0, 0, 0, 0, 0, 13, 7, 42, 32 };
-/* Codewords of extended graphics, and of a mode and item that no disc carries. */
+/* Codewords of extended graphics, and of a mode and item that no disc uses. */
 static const uint8_t extended[24] = { 10, 1, 53, 62, 0, 0, 0, 0, 0, 0, 0, 0, 0, 0, 0, 0, 0, 0, 0, 0, 60, 14, 32, 18 };
 static const uint8_t unused[24] = { 5, 1, 24, 28, 0, 0, 0, 0, 0, 0, 0, 0, 0, 0, 0, 0, 0, 0, 0, 0, 12, 35, 2, 45 };
 
@@ -24,8 +24,8 @@ static void check(int holds, const char *what, int line)
     }
 }
 
-/* Where symbol i of word n stands: the positions 1 and 18, 2 and 5, 3 and 23 are exchanged, and the symbol at a position
-   goes as many slots later as the position's rest by eight. */
+/* The place of symbol i of word n: the positions 1 and 18, 2 and 5, 3 and 23 are exchanged, and the symbol at a position is
+   sent as many slots later as the remainder of the position modulo 8. */
 static size_t place(size_t n, size_t i)
 {
     static const uint8_t to[24] = { 0, 18, 5, 23, 4, 2, 6, 7, 8, 9, 10, 11, 12, 13, 14, 15, 16, 17, 1, 19, 20, 21, 22, 3 };
@@ -40,7 +40,7 @@ static void put_word(uint8_t *stream, size_t n, const uint8_t word[24])
     }
 }
 
-/* Blocks with a good frame of the Q channel in each (ten bytes of zeros and their check), and word 1 a preset. */
+/* Blocks with a good Q frame each (ten bytes of zeros and their check); word 1 is a preset. */
 static void make_stream(uint8_t *stream)
 {
     memset(stream, 0, BYTES);
@@ -63,7 +63,7 @@ static int is_told(const ribjasper_mended *told, uint32_t both, uint32_t first, 
         && told->of_second == second && told->agreed == agreed && told->none == none;
 }
 
-/* Word 1 is this and all others are zeros; nothing is written behind them. */
+/* Word 1 is this pack and all others are zeros; nothing is written behind them. */
 static int are_packs(const uint8_t *packs, const uint8_t word[24])
 {
     return all_are(packs, 24, 0) && memcmp(packs + 24, word, 24) == 0 && all_are(packs + 48, ROOM - 48, 0)
@@ -88,7 +88,7 @@ static void readings(void)
     CHECK(are_packs(packs, preset));
     CHECK(mend(one, one, packs, &told) == RIBJASPER_CONVERTED && is_told(&told, 9, 0, 0, 0, 0));
 
-    /* Two wrong symbols in each, at other places: the same codeword is near both. */
+    /* Two wrong symbols in each reading, at different places: the same codeword is near both. */
     memcpy(word, preset, 24);
     word[0] ^= 5;
     word[1] ^= 9;
@@ -100,7 +100,7 @@ static void readings(void)
     CHECK(mend(one, other, packs, &told) == RIBJASPER_CONVERTED && is_told(&told, 9, 0, 0, 0, 0));
     CHECK(are_packs(packs, preset));
 
-    /* One reading alone has it: of the other much is noise. */
+    /* Only one reading has it: the other one is mostly noise. */
     make_stream(one);
     for (size_t i = 0; i < 24; i++)
         word[i] = (uint8_t)(3 * i + 11) & 0x3f;
@@ -110,11 +110,11 @@ static void readings(void)
     CHECK(are_packs(packs, preset));
     CHECK(mend(other, one, packs, &told) == RIBJASPER_CONVERTED && is_told(&told, 8, 0, 1, 0, 0));
     CHECK(are_packs(packs, preset));
-    /* Neither has it. */
+    /* Neither reading has it. */
     CHECK(mend(other, other, packs, &told) == RIBJASPER_DAMAGED && is_told(&told, 8, 0, 0, 0, 1));
     CHECK(are_packs(packs, zeros));
 
-    /* Three symbols are wrong in both, each in its own way: that they differ there tells it. */
+    /* Three symbols are wrong in both, differently: the differences show where. */
     memcpy(word, preset, 24);
     word[5] ^= 1;
     word[11] ^= 1;
@@ -136,7 +136,7 @@ static void empty_blocks(void)
     uint8_t one[BYTES], other[BYTES], word[24], packs[ROOM + 5];
     ribjasper_mended told;
     make_stream(one);
-    /* What was not read gives nothing, though zeros are a codeword. */
+    /* Unread blocks have no codeword, although zeros are one. */
     memset(other, 0, BYTES);
     CHECK(mend(one, other, packs, &told) == RIBJASPER_CONVERTED && is_told(&told, 0, 9, 0, 0, 0));
     CHECK(are_packs(packs, preset));
@@ -144,23 +144,23 @@ static void empty_blocks(void)
     CHECK(are_packs(packs, preset));
     CHECK(mend(other, other, packs, &told) == RIBJASPER_DAMAGED && is_told(&told, 0, 0, 0, 0, 9));
     CHECK(are_packs(packs, zeros));
-    /* The first two blocks were not read: of word 1 so few symbols stand in the third that zeros are near. That reading
-       misses graphics there, and is quiet at all words, so none of its idle packs counts. */
+    /* The first two blocks were not read: the third has so few symbols of word 1 that zeros are near. That reading misses
+       graphics there, and is quiet at all words, so none of its idle packs counts. */
     make_stream(other);
     memset(other, 0, 2 * 96);
     CHECK(mend(one, other, packs, &told) == RIBJASPER_CONVERTED && is_told(&told, 0, 9, 0, 0, 0));
     CHECK(are_packs(packs, preset));
     CHECK(mend(other, one, packs, &told) == RIBJASPER_CONVERTED && is_told(&told, 0, 0, 9, 0, 0));
     CHECK(are_packs(packs, preset));
-    /* So it is if the graphics pack has two wrong symbols. */
+    /* The same if the graphics pack has two wrong symbols. */
     memcpy(word, preset, 24);
     word[0] ^= 5;
     word[1] ^= 9;
     put_word(one, 1, word);
     CHECK(mend(one, other, packs, &told) == RIBJASPER_CONVERTED && is_told(&told, 0, 9, 0, 0, 0));
     CHECK(are_packs(packs, preset));
-    /* Two symbols of a pack of extended graphics are wrong: it is no sign that the other lacks graphics. The idle pack under
-       which blocks are unread is still taken last. */
+    /* Two symbols of a pack of extended graphics are wrong: it does not show that the other reading lacks graphics. The idle
+       pack with unread blocks is still the last choice. */
     memcpy(word, extended, 24);
     word[4] ^= 5;
     word[5] ^= 9;
@@ -180,13 +180,13 @@ static void empty_blocks(void)
     CHECK(are_packs(packs, preset));
     CHECK(mend(other, other, packs, &told) == RIBJASPER_CONVERTED && is_told(&told, 9, 0, 0, 0, 0));
     CHECK(are_packs(packs, zeros));
-    /* The same with frames whose check is wrong: what has a bit of any channel was read. */
+    /* The same with frames whose check is wrong: a block with a bit in any channel was read. */
     for (size_t block = 0; block < BLOCKS; block++)
         memset(other + 96 * block + 80, 0, 15);
     CHECK(mend(other, other, packs, &told) == RIBJASPER_CONVERTED && is_told(&told, 9, 0, 0, 0, 0));
 }
 
-/* A codeword with a wrong symbol, whose mode and item no disc carries, counts for nothing where another reading is quiet. */
+/* A codeword with a wrong symbol, whose mode and item no disc uses, does not count if another reading is quiet. */
 static void doubtful_codewords(void)
 {
     static const uint8_t zeros[24] = { 0 };
@@ -202,14 +202,14 @@ static void doubtful_codewords(void)
     CHECK(are_packs(packs, zeros));
     CHECK(mend(other, one, packs, &told) == RIBJASPER_CONVERTED && is_told(&told, 8, 1, 0, 0, 0));
     CHECK(are_packs(packs, zeros));
-    /* Beside itself it counts. */
+    /* It counts beside itself. */
     CHECK(mend(one, one, packs, &told) == RIBJASPER_CONVERTED && is_told(&told, 9, 0, 0, 0, 0));
     CHECK(are_packs(packs, unused));
-    /* Beside a reading that was not read there it does not, and no other is there. */
+    /* Beside a reading that was not read there it does not count, and there is no other codeword. */
     memset(other, 0, BYTES);
     CHECK(mend(one, other, packs, &told) == RIBJASPER_DAMAGED && is_told(&told, 0, 8, 0, 0, 1));
     CHECK(are_packs(packs, zeros));
-    /* With no wrong symbol it shows that the idle reading lacks graphics. */
+    /* Without wrong symbols it shows that the idle reading lacks graphics. */
     make_stream(other);
     put_word(other, 1, zeros);
     put_word(one, 1, unused);
@@ -217,7 +217,7 @@ static void doubtful_codewords(void)
     CHECK(are_packs(packs, unused));
 }
 
-/* Readings of which two give different codewords with no wrong symbol for word 1. */
+/* Two readings have different error-free codewords for word 1. */
 static void reports(void)
 {
     static uint8_t all[3 * BYTES], blocks[BYTES];
@@ -235,7 +235,7 @@ static void reports(void)
     memset(&report, 7, sizeof report);
     CHECK(ribjasper_mend_stream_report(all, 2 * BYTES, 2, 0, blocks, BYTES, sources, WORDS, &report) == RIBJASPER_DAMAGED);
     CHECK(report.counts.bytes == BYTES && report.counts.none == 1 && report.lost[0] == 1 && report.lost[1] == 1);
-    /* A third decides; and one without graphics loses nothing, since what it gives does not count. */
+    /* A third reading decides; and one without graphics loses nothing, because its codewords do not count. */
     make_stream(all + 2 * BYTES);
     CHECK(ribjasper_mend_report(all, 3 * BYTES, 3, 0, packs, ROOM, sources, WORDS, &report) == RIBJASPER_CONVERTED);
     CHECK(report.lost[0] == 0 && report.lost[1] == 1 && report.lost[2] == 0 && memcmp(packs + 24, preset, 24) == 0);
@@ -273,7 +273,7 @@ static void refusals(void)
     CHECK(ribjasper_mend(one, BYTES, one, BYTES, 450000, packs, 0, &told) == RIBJASPER_CONVERTED && told.blocks == 0);
     CHECK(ribjasper_mend(one, 0, one, 0, 0, packs, 0, &told) == RIBJASPER_CONVERTED && told.bytes == 0);
     CHECK(memcmp(packs, kept, sizeof packs) == 0);
-    /* A lead-in is passed over: word 0 of the program is then word 4 of the stream. */
+    /* A lead-in is skipped: word 0 of the program is then word 4 of the stream. */
     put_word(one, 4, preset);
     CHECK(ribjasper_mend(one, BYTES, one, BYTES, 1, packs, 120, &told) == RIBJASPER_CONVERTED);
     CHECK(told.bytes == 120 && told.blocks == 3 && told.both == 5 && memcmp(packs, preset, 24) == 0);
@@ -297,7 +297,7 @@ static void many_readings(void)
     static const uint32_t of_first[] = { 9, 0, 0 }, of_both[] = { 8, 1, 0 };
     uint8_t packs[ROOM + 5], sources[WORDS + 3], word[24];
     ribjasper_mended_readings told;
-    /* Two without channels R to W before a whole one, which comes out. */
+    /* Two readings without channels R to W, and then a whole one, which is the result. */
     for (size_t r = 0; r < 3; r++) {
         make_stream(all + r * BYTES);
         for (size_t k = 0; r < 2 && k < BYTES; k++)
@@ -312,11 +312,11 @@ static void many_readings(void)
     memset(packs, 7, sizeof packs);
     CHECK(ribjasper_mend_readings(all, 3 * BYTES, 3, 0, packs, sizeof packs, NULL, 0, &told) == RIBJASPER_CONVERTED);
     CHECK(are_packs(packs, preset) && tallies_are(&told, of_last, left_out, 3, 0, 0));
-    /* One reading is corrected. */
+    /* A single reading is corrected. */
     memset(packs, 7, sizeof packs);
     CHECK(ribjasper_mend_readings(all + 2 * BYTES, BYTES, 1, 0, packs, sizeof packs, sources, WORDS, &told) == RIBJASPER_CONVERTED);
     CHECK(are_packs(packs, preset) && all_are(sources, WORDS, 0) && tallies_are(&told, of_first, none_of, 1, 0, 0));
-    /* Of three the one with the fewest wrong symbols names the source: two, one and none. */
+    /* Of three readings, the one with the fewest wrong symbols is the source: two, one and none are wrong. */
     for (size_t r = 0; r < 3; r++) {
         make_stream(all + r * BYTES);
         memcpy(word, preset, 24);
@@ -339,7 +339,7 @@ static void many_readings(void)
     CHECK(sources[1] == RIBJASPER_AGREED && memcmp(packs + 24, preset, 24) == 0 && told.agreed == 1 && told.none == 0);
     CHECK(ribjasper_mend_readings(all, BYTES, 1, 0, packs, ROOM, sources, WORDS, &told) == RIBJASPER_DAMAGED);
     CHECK(sources[1] == RIBJASPER_NO_READING && all_are(packs, ROOM, 0) && told.agreed == 0 && told.none == 1);
-    /* As many as can be told apart: all but the last without channels R to W. */
+    /* The greatest number of readings that have different sources: all except the last lack channels R to W. */
     for (size_t r = 0; r < 255; r++) {
         make_stream(all + r * BYTES);
         for (size_t k = 0; r < 253 && k < BYTES; k++)
@@ -376,14 +376,14 @@ static void refusals_of_many(void)
     CHECK(ribjasper_mend_readings(all, 2 * BYTES, 2, 3, packs, 0, NULL, 0, &told) == RIBJASPER_CONVERTED);
     CHECK(told.bytes == 0 && told.blocks == 1 && told.none == 0 && told.of_reading[0] == 0);
     CHECK(ribjasper_mend_readings(all, 0, 2, 0, packs, 0, NULL, 0, &told) == RIBJASPER_CONVERTED && told.blocks == 0);
-    /* A lead-in is passed over in each. */
+    /* A lead-in is skipped in each reading. */
     put_word(all, 4, preset);
     put_word(all + BYTES, 4, preset);
     CHECK(ribjasper_mend_readings(all, 2 * BYTES, 2, 1, packs, 120, sources, 5, &told) == RIBJASPER_CONVERTED);
     CHECK(told.bytes == 120 && told.blocks == 3 && memcmp(packs, preset, 24) == 0);
 }
 
-/* A stream of the room that is asked for, between bytes that have to stay. */
+/* A stream in a buffer of exactly this size, between bytes that must not change. */
 enum { EDGE = 5 };
 static uint8_t streamed[BYTES + 2 * EDGE], named[WORDS + 2 * EDGE];
 
@@ -401,7 +401,7 @@ static int stays_outside(size_t words)
         && all_are(named + EDGE + words, sizeof named - EDGE - words, 7);
 }
 
-/* The symbol at a byte of what was written, and the channels P and Q. */
+/* The symbol in a byte of the output, and its P and Q bits. */
 static int symbol_at(size_t byte) { return streamed[EDGE + byte] & 0x3f; }
 static int channels_at(size_t byte) { return streamed[EDGE + byte] & 0xc0; }
 
@@ -422,7 +422,7 @@ static void streams(void)
     ribjasper_mended_readings told;
     ribjasper_converted converted;
     size_t k;
-    /* One reading with two wrong symbols in a word is that reading corrected. */
+    /* The result for one reading with two wrong symbols in a word is this reading, corrected. */
     make_stream(bare);
     make_stream(all);
     memcpy(word, preset, 24);
@@ -432,7 +432,7 @@ static void streams(void)
     CHECK(mend_stream(all, 1, 0, WORDS, &told) == RIBJASPER_CONVERTED && stays_outside(WORDS));
     CHECK(memcmp(streamed + EDGE, bare, BYTES) == 0 && all_are(named + EDGE, WORDS, 0));
     CHECK(told.bytes == BYTES && told.blocks == BLOCKS && told.of_reading[0] == WORDS && told.none == 0);
-    /* The channels P and Q are those of the only reading with a good Q frame: the third. */
+    /* Channels P and Q come from the only reading with a good Q frame: the third. */
     make_stream(all);
     make_stream(all + BYTES);
     make_stream(all + 2 * BYTES);
@@ -444,7 +444,7 @@ static void streams(void)
     CHECK(mend_stream(all, 3, 0, WORDS, &told) == RIBJASPER_CONVERTED && stays_outside(WORDS));
     for (k = 0; k < BYTES; k++)
         CHECK(channels_at(k) == ((k / 96 == 1 ? all[2 * BYTES + k] : bare[k]) & 0xc0) && symbol_at(k) == (bare[k] & 0x3f));
-    /* If no frame is good, they are those of a reading that was read: the second, whose symbols are not all 0. */
+    /* If no frame is good, they come from a reading that was read: the second, whose symbols are not all 0. */
     make_stream(all);
     make_stream(all + BYTES);
     memset(all + 96 * 3, 0, 96);
@@ -453,13 +453,13 @@ static void streams(void)
     CHECK(mend_stream(all, 2, 0, WORDS, &told) == RIBJASPER_CONVERTED && stays_outside(WORDS));
     for (k = 96 * 3; k < BYTES; k++)
         CHECK(channels_at(k) == 0x80);
-    /* A block of which only bits P are set was read. */
+    /* A block with only P bits was read. */
     memset(all + BYTES + 96 * 3, 0, 96);
     memset(all + 96 * 3, 0x80, 96);
     CHECK(mend_stream(all, 2, 0, WORDS, &told) == RIBJASPER_CONVERTED);
     for (k = 96 * 3; k < BYTES; k++)
         CHECK(channels_at(k) == 0x80 && symbol_at(k) == 0);
-    /* Symbols of no whole word come from a reading that was read there, and are the greatest of two different ones. */
+    /* Symbols that belong to no whole word come from a reading that was read there: the greater of two different ones. */
     make_stream(all);
     make_stream(all + BYTES);
     for (k = 0; k < BYTES; k++)
@@ -471,8 +471,8 @@ static void streams(void)
     CHECK(mend_stream(all, 2, 0, WORDS, &told) == RIBJASPER_CONVERTED && stays_outside(WORDS));
     for (k = 0; k < BYTES; k++)
         CHECK(symbol_at(k) == (is_of_word(k) ? bare[k] & 0x3f : 42));
-    /* A word that is lost in both, each in its own places: the symbols of each block come from the reading with the greater
-       ones, and the stream has no codeword there. All other words are as they were. */
+    /* Both readings lost a word at different places: the symbols of each block come from the reading with the greater ones, and
+       the stream has no codeword there. All other words are unchanged. */
     make_stream(all);
     make_stream(all + BYTES);
     for (k = 0; k < 24; k++)
@@ -487,7 +487,7 @@ static void streams(void)
     CHECK(mend_stream(all, 2, 0, WORDS, &told) == RIBJASPER_DAMAGED && stays_outside(WORDS));
     CHECK(named[EDGE + 1] == RIBJASPER_NO_READING && told.none == 1 && memcmp(streamed + EDGE, bare, BYTES) == 0);
     CHECK(ribjasper_convert(streamed + EDGE, BYTES, RIBJASPER_RAW, 0, packs, ROOM, &converted) == RIBJASPER_DAMAGED && converted.bad == 1);
-    /* A lead-in comes from the reading that was read there; word 0 of the program is word 4 of the stream. */
+    /* The lead-in comes from the reading that was read there; word 0 of the program is word 4 of the stream. */
     make_stream(all);
     make_stream(all + BYTES);
     memcpy(word, preset, 24);
@@ -500,7 +500,7 @@ static void streams(void)
     CHECK(told.bytes == BYTES && told.blocks == 3 && named[EDGE] == 1 && all_are(streamed + EDGE, 96, 0x2a));
     CHECK(ribjasper_convert(streamed + EDGE, BYTES, RIBJASPER_RAW, 1, packs, ROOM, &converted) == RIBJASPER_CONVERTED);
     CHECK(converted.bytes == ROOM - 96 && memcmp(packs, preset, 24) == 0 && memcmp(streamed + EDGE + 96, all + BYTES + 96, BYTES - 96) == 0);
-    /* A program of one block, or of none, has no words: each block comes from a reading that was read there. */
+    /* A program of one block or none has no words: each block comes from a reading that was read there. */
     for (uint32_t lead_in = 3; lead_in < 6; lead_in++) {
         memset(streamed, 7, sizeof streamed);
         CHECK(ribjasper_mend_stream(all, 2 * BYTES, 2, lead_in, streamed + EDGE, BYTES, NULL, 0, &told) == RIBJASPER_CONVERTED);
@@ -510,7 +510,7 @@ static void streams(void)
     }
 }
 
-/* Five readings, in each of their 120 orders, give the same stream. The first three have every word. The first and the third
+/* Five readings in each of their 120 orders give the same stream. The first three have every word. The first and the third
    agree on the other symbols. The last two have noise in channels R to W and the greatest other symbols. */
 static void streams_in_each_order(void)
 {
@@ -529,15 +529,15 @@ static void streams_in_each_order(void)
                 each[r][k] ^= (uint8_t)(1 + (k * 7) % 60);
     }
     memcpy(right, each[0], BYTES);
-    /* Block 1: all Q frames are good, and one reading has other bits P. */
+    /* Block 1: all Q frames are good, and one reading has other P bits. */
     for (size_t k = 96; k < 192; k++)
         each[0][k] |= 0x80;
-    /* Block 2: two Q frames are good, and their bits P differ: the greater ones are taken. */
+    /* Block 2: two Q frames are good, and their P bits differ: the greater ones are chosen. */
     each[0][192] |= 0x80;
     right[192] |= 0x80;
     for (size_t r = 2; r < COUNT; r++)
         each[r][200] ^= 0x40;
-    /* Block 3: only one reading was read, and its Q channel is no frame. */
+    /* Block 3: only one reading was read, and its Q channel has no good frame. */
     for (size_t r = 0; r < COUNT; r++)
         if (r != 2)
             memset(each[r] + 288, 0, 96);
@@ -562,7 +562,7 @@ static void streams_in_each_order(void)
     CHECK(orders == 120);
 }
 
-/* One reading after another is whole in its turn, in streams of each length up to some blocks and each lead-in. */
+/* Each reading is whole in turn, in streams of each length up to some blocks, with each lead-in. */
 static void streams_of_all_lengths(void)
 {
     enum { LONG = 9 };

@@ -1,6 +1,6 @@
-/* The C conventions of Windows and of 64-bit ARM leave the unused bits of a register undefined when a number is narrower, and
-   those of the stack too. So each call with numbers of 8 or 32 bits is made through a type that passes 64, once with zeros
-   and once with ones above the number: the answers have to be the same. */
+/* The calling conventions of Windows and of 64-bit ARM leave the unused bits of a register, and of the stack, undefined if a
+   number is narrower. So each call with numbers of 8 or 32 bits is made through a type that passes 64 bits, once with zeros
+   and once with ones above the number: the answers must be the same. */
 #include "ribjasper.h"
 
 #include <stdio.h>
@@ -11,7 +11,7 @@
 #define DIRTY 0xffffffff00000000u
 #define DIRTY_BYTE 0xffffffffffffff00u
 
-/* The calls under second names, whose types pass 64 bits where the header passes 8 or 32. */
+/* The calls under second names, with types that pass 64 bits where the header passes 8 or 32. */
 #define WIDE(result, name, parameters) extern result wide_##name parameters __asm__("ribjasper_" #name)
 
 WIDE(int32_t, player_begin, (ribjasper_player *, uint64_t, uint64_t));

@@ -1,5 +1,5 @@
-/* The parity of packs: counted and written. The codewords were computed by another program (tests/peers/reckon_rows.py). A file
-   whose parity was taken off is sealed to what it was, by ribjasper_packs_seal and by a player of packs that draws it. */
+/* Counting and writing the parity of packs. The codewords were computed by another program (tests/peers/reckon_rows.py). A file
+   whose parity was removed is sealed to the original, by ribjasper_packs_seal and by a player of packs that draws it. */
 #include "ribjasper.h"
 #include "testing.h"
 
@@ -50,7 +50,7 @@ static void test_known(void)
         CHECK(memcmp(pack, known[n][1], sizeof pack) == 0);
         CHECK(counts_are(pack, 1, 0, 1, 0));
         CHECK(ribjasper_correct(pack, word) == 0);
-        /* Each wrong symbol makes the parity invalid; upper bits do not count, and sealing takes them off. */
+        /* Each wrong symbol makes the parity invalid; upper bits do not count, and sealing removes them. */
         for (i = 0; i < RIBJASPER_PACK; i++) {
             pack[i] ^= (uint8_t)(1 + next(63));
             CHECK(counts_are(pack, 1, 0, 0, 1));
@@ -62,7 +62,7 @@ static void test_known(void)
     }
 }
 
-/* Packs of every kind, without parity: idle ones, tiles, noise. The parity symbols hold noise too. */
+/* Packs of every kind without parity: idle ones, tiles, noise. Their parity symbols are noise too. */
 static void test_many(void)
 {
     static uint8_t bare[RIBJASPER_PACK * PACKS], sealed[RIBJASPER_PACK * PACKS + 1];
@@ -89,7 +89,7 @@ static void test_many(void)
                 CHECK(sealed[RIBJASPER_PACK * n + i] == bare[RIBJASPER_PACK * n + i] % 64);
 }
 
-/* As blocks of packs a file without parity draws nothing; sealed it draws what ribjasper_player_draw_all draws. */
+/* Blocks of packs without parity draw nothing; sealed, they draw what ribjasper_player_draw_all draws. */
 static void test_player(void)
 {
     static uint8_t packs[RIBJASPER_PACK * PACKS], wanted[RIBJASPER_PICTURE], shown[RIBJASPER_PICTURE], black[RIBJASPER_PICTURE];

@@ -1,5 +1,5 @@
-/* Pixels in each format, what of the screen may change, many blocks and packs at once, counts, and a player that is copied
-   to itself: against plain C and rows whose values come from docs/FORMATS.md.
+/* Pixels in each format, reported changes, many blocks and packs in one call, counts, and a player that is copied to itself:
+   compared with plain C and with values from docs/FORMATS.md.
 
    test_pixels [STREAM]   with a raw stream of blocks it also feeds that, at once and block by block */
 #include "ribjasper.h"
@@ -14,7 +14,7 @@ static uint32_t any(uint32_t below)
     return (uint32_t)((uint64_t)(seed >> 8) * below >> 24);
 }
 
-/* A pack that means something, most of the time: its two parities have no part in what is drawn. */
+/* Mostly a pack with a meaning; its two parities do not affect the drawing. */
 static void any_pack(uint8_t pack[24])
 {
     static const uint8_t codes[] = { 1, 2, 6, 6, 6, 6, 38, 38, 38, 38, 20, 24, 28, 30, 31, 3 };
@@ -38,7 +38,7 @@ static void begin_pack(uint8_t pack[24], uint8_t code)
 
 static const uint32_t sizes[] = { 1, 3, 4, 4, 4, 4, 2 };
 
-/* The bytes of a pixel as docs/FORMATS.md has them. */
+/* The bytes of a pixel, from docs/FORMATS.md. */
 static void plain_pixel(uint32_t format, uint8_t number, uint16_t colour, uint8_t level, uint8_t bytes[4])
 {
     uint8_t red = (uint8_t)((colour >> 8) * 0x11), green = (uint8_t)((colour >> 4 & 15) * 0x11),
@@ -60,7 +60,7 @@ static void plain_pixel(uint32_t format, uint8_t number, uint16_t colour, uint8_
 #define ROOM 300000
 static uint8_t out[ROOM], wanted[ROOM], before[RIBJASPER_PIXELS], after[RIBJASPER_PIXELS];
 
-/* One part of the screen, in one format: each byte, and no byte beside. */
+/* One part of the screen in one format: each byte, and no other byte. */
 static void check_part(const ribjasper_player *player, uint32_t format, uint32_t x, uint32_t y, uint32_t width,
                        uint32_t height, uint32_t gap, size_t spare)
 {
@@ -82,7 +82,7 @@ static void check_part(const ribjasper_player *player, uint32_t format, uint32_t
         }
     CHECK(ribjasper_player_pixels(player, format, x, y, width, height, out, room + spare, stride) == RIBJASPER_DONE);
     CHECK(memcmp(out, wanted, sizeof out) == 0);
-    /* A byte of room too little, and rows that lie over each other, are refused, and nothing is written. */
+    /* A buffer that is one byte too small, and overlapping rows, are refused, and nothing is written. */
     memset(out, 0xa5, sizeof out);
     memset(wanted, 0xa5, sizeof wanted);
     if (height > 0 && width > 0) {
@@ -102,7 +102,7 @@ static void pixels(void)
     CHECK(ribjasper_player_pixels(&player, 0, 0, 0, 0, 0, NULL, 0, 0) == RIBJASPER_REFUSED);
     if (ribjasper_player_open(&player) != RIBJASPER_DONE)
         return;
-    /* Colour 1 is 0xF80, its level 63: orange, and clear. */
+    /* Colour 1 is 0xF80 with level 63: orange, and transparent. */
     begin_pack(pack, 30);
     pack[6] = 0x3e;
     pack[7] = 0x00;
@@ -130,7 +130,7 @@ static void pixels(void)
         check_part(&player, format, 300, 216, 0, 0, 0, 0);
         check_part(&player, format, 5, 7, 0, 9, 3, 0);
         check_part(&player, format, 5, 7, 9, 0, 3, 0);
-        /* Narrow and high, with one pixel more each, in the window and beyond it. */
+        /* Narrow and high parts, each one pixel larger, in the window and beyond it. */
         for (n = 1; n < 20; n++) {
             check_part(&player, format, 100, 12, n, 192, n % 3, 0);
             check_part(&player, format, 290 - n, 0, n, 216, n % 5, 7);
@@ -163,7 +163,7 @@ static int within(const ribjasper_change *change, uint32_t x, uint32_t y)
     return change->left <= x && x < change->right && change->top <= y && y < change->bottom;
 }
 
-/* Whether no pixel of the screen differs outside of what was told. */
+/* Whether no pixel outside of the reported change differs. */
 static int holds_all(const ribjasper_change *change)
 {
     uint32_t n;
@@ -183,7 +183,7 @@ static int min(int a, int b)
     return a < b ? a : b;
 }
 
-/* What the header says of a pack. */
+/* The change of a pack, from the header. */
 static ribjasper_change told_of(int32_t touched, int across, int down)
 {
     ribjasper_change change = { 300, 216, 0, 0, 0, 0 };
@@ -228,7 +228,7 @@ static int is_change(const ribjasper_change *one, const ribjasper_change *other)
            one->bottom == other->bottom && one->colours == other->colours && one->levels == other->levels;
 }
 
-/* Packs one by one and many at once: what is told is what the header says, and nothing else changes. */
+/* Packs one by one and many in one call: the report is that of the header, and nothing else changes. */
 static void changes(void)
 {
     static uint8_t packs[24 * 40];
@@ -273,7 +273,7 @@ static void changes(void)
     CHECK(held == 0);
 }
 
-/* A stream of blocks, with noise in some: at once it shows what it shows block by block. */
+/* A stream of blocks, some of them with noise: fed in one call, it shows the same as block by block. */
 static void blocks(uint8_t *stream, size_t count)
 {
     ribjasper_player one = RIBJASPER_CLOSED, all = RIBJASPER_CLOSED;
@@ -311,7 +311,7 @@ static void blocks(uint8_t *stream, size_t count)
     CHECK(held == 0);
 }
 
-/* From a checkpoint on, packs and blocks at once leave a player where they leave it one by one. */
+/* From a checkpoint on, packs and blocks in one call have the same effect as one by one. */
 static void from_a_checkpoint(uint8_t *stream, size_t count)
 {
     static uint8_t file[RIBJASPER_CHECKPOINT], at_once[RIBJASPER_CHECKPOINT], in_turn[RIBJASPER_CHECKPOINT];
@@ -360,7 +360,7 @@ static void counted(void)
     ribjasper_player_close(&player);
 }
 
-/* A player that is given twice stays as it is, and one that was moved plays on. */
+/* A player that is copied to itself is unchanged, and one that was moved plays on. */
 static void one_player_twice(void)
 {
     ribjasper_player player = RIBJASPER_CLOSED, moved;

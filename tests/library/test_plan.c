@@ -1,14 +1,14 @@
-/* The plan of a disc: rows whose values follow from docs/FORMATS.md, each refusal, each room that is too small, each
-   request for memory refused. With four arguments (a sheet, a script, and the blocks of the lead-in and of the audio) it
-   prints the rows of that disc instead. Linked as tests/library/test_library.c is. */
+/* The plan of a disc: rows with values from docs/FORMATS.md, each refusal, each buffer that is too small, and each request for
+   memory refused. With four arguments (a sheet, a script, and the numbers of blocks of the lead-in and of the audio) it prints
+   the rows of that disc instead. Linked like tests/library/test_library.c. */
 #include "ribjasper.h"
 
 #include "testing.h"
 
 static const char sheet[] = "FILE \"a\" WAVE\nTRACK 01 AUDIO\nINDEX 01 00:00:00\n";
 
-/* The first picture needs a preset, the border and both halves of the table: four packs. At block 2 only one is whole,
-   at block 3 five are. The second needs nothing, and the third the border. */
+/* The first picture needs a preset, the border and both halves of the table: four packs. At block 2 only one of them is
+   complete, at block 3 five packs are. The second needs nothing, and the third the border. */
 static const char late_script[] = "# late\nshow 00:00:02 00:00:03\n\nshow 00:00:10 00:00:10\nborder 3\nshow 00:01:00 00:01:01\n";
 static const char script[] = "# in time\nshow 00:00:03 00:00:03\n\nshow 00:00:10 00:00:10\nborder 3\nshow 00:01:00 00:01:01\n";
 
@@ -24,7 +24,7 @@ static int32_t plan(const char *cue, const char *drawings, uint32_t lead_in, uin
                           room, &told);
 }
 
-/* Whether all rows from one on are as they were. */
+/* Whether all rows from this one on are unchanged. */
 static int untouched(size_t from)
 {
     const uint8_t *bytes = (const uint8_t *)(rows + from);
@@ -139,7 +139,7 @@ static void rooms_and_memory(void)
         CHECK(untouched(0) && told.why == 0x5a5a5a5a);
     }
     CHECK(answer == RIBJASPER_LATE);
-    /* A script is refused where there is no memory for the sheet. */
+    /* A script is refused even if there is no memory for the sheet. */
     for (long n = 0; n < 20; n++) {
         requests = 0;
         refused = n;
@@ -149,7 +149,7 @@ static void rooms_and_memory(void)
     }
 }
 
-/* Every front of a script has a plan or is refused, and what is behind its rows stays. */
+/* Every prefix of a script has a plan or is refused, and what is behind its rows is unchanged. */
 static void torn_scripts(void)
 {
     char part[sizeof late_script];

@@ -1,5 +1,5 @@
-/* Seeking: from whatever marks it starts, a player stands where one stands that was fed, or drew, from the start. And what is
-   refused, and leaves the player and the marks as they are. And the conversions of many planar blocks. */
+/* Seeking: from whatever marks it starts, a player has the state of one that was fed, or drew, from the start. A refused call
+   leaves the player and the marks unchanged. Also the conversions of many planar blocks. */
 #include "ribjasper.h"
 #include "testing.h"
 
@@ -31,7 +31,7 @@ static void make_packs(void)
     }
 }
 
-/* A stream in which words of idle packs, of graphics and of noise follow each other. */
+/* A stream with words of idle packs, of graphics and of noise, one after another. */
 static void make_stream(void)
 {
     size_t n, i;
@@ -42,7 +42,7 @@ static void make_stream(void)
     }
 }
 
-/* Whether two players show and count the same. */
+/* Whether two players have the same screen and counts. */
 static int same(const ribjasper_player *one, const ribjasper_player *other)
 {
     static uint8_t a[RIBJASPER_PICTURE], b[RIBJASPER_PICTURE];
@@ -56,7 +56,7 @@ static int same(const ribjasper_player *one, const ribjasper_player *other)
     return memcmp(a, b, sizeof a) == 0 && memcmp(levels, more, sizeof levels) == 0 && memcmp(&counts, &others, sizeof counts) == 0;
 }
 
-/* Whether they also go on in the same way. */
+/* Whether they also continue in the same way. */
 static int goes_on(ribjasper_player *one, ribjasper_player *other)
 {
     uint8_t block[RIBJASPER_BLOCK];
@@ -115,7 +115,7 @@ static void packs_sought(uint32_t every, size_t room)
     ribjasper_player_close(&other);
 }
 
-/* What is refused leaves the player and the marks as they are. */
+/* A refused call leaves the player and the marks unchanged. */
 static void not_done(void)
 {
     ribjasper_player one = RIBJASPER_CLOSED, other = RIBJASPER_CLOSED;
@@ -146,7 +146,7 @@ static void not_done(void)
     ribjasper_player_close(&other);
 }
 
-/* Many planar blocks, as one call each has them. */
+/* Many planar blocks, compared with one call for each. */
 static void planar_blocks(void)
 {
     static uint8_t planar[RIBJASPER_BLOCK * BLOCKS], back[RIBJASPER_BLOCK * BLOCKS];

@@ -1,5 +1,5 @@
-/* What the library says of cue sheets, whose values come from docs/FORMATS.md, and its small calls: the weight of tiles,
-   times, answers in words. Linked with a heap that counts (testing.h). */
+/* What the library reads from cue sheets, with values from docs/FORMATS.md, and its small calls: the weight of tiles, times,
+   answers in words. Linked with a heap that counts (testing.h). */
 #include "ribjasper.h"
 
 #include "testing.h"
@@ -55,7 +55,7 @@ static void what_a_sheet_says(void)
     CHECK(memcmp(rows + 4, kept + 4, sizeof rows - 4 * sizeof *rows) == 0);
     CHECK(held == 0);
 
-    /* Just enough room, and one row too little. */
+    /* A buffer that is just large enough, and one that lacks a row. */
     CHECK(ribjasper_sheet(bytes_of(sheet), length, rows, 4, &told) == RIBJASPER_CONVERTED);
     memcpy(kept, rows, sizeof rows);
     memset(&told, 9, sizeof told);
@@ -89,14 +89,14 @@ static void texts_of_a_sheet(void)
     CHECK(ribjasper_sheet_text(bytes_of(sheet), length, 3, 0, out, 16, &bytes) == RIBJASPER_USAGE && bytes == 99);
     CHECK(ribjasper_sheet_text(bytes_of(sheet), length, 0, 3, out, 16, &bytes) == RIBJASPER_USAGE && bytes == 99);
     CHECK(ribjasper_sheet_text(bytes_of(sheet), length - 40, 0, 0, out, 16, &bytes) == RIBJASPER_TORN && bytes == 99);
-    /* A number that is no kind is refused before the sheet is read, whatever the sheet and the room. */
+    /* An unknown kind is refused before the sheet is read, whatever the sheet and the buffer. */
     CHECK(ribjasper_sheet_text(bytes_of(sheet), length - 40, 3, 0, out, 16, &bytes) == RIBJASPER_USAGE && bytes == 99);
     CHECK(ribjasper_sheet_text(bytes_of(sheet), length, 3, 0, out, 0, &bytes) == RIBJASPER_USAGE && bytes == 99);
     CHECK(out[0] == 7 && held == 0);
     CHECK(ribjasper_sheet_text(bytes_of(sheet), length, RIBJASPER_TITLE, 1, NULL, 0, &bytes) == 0 && bytes == 0);
 }
 
-/* Each reason for which a sheet is refused, with its line. */
+/* Each reason why a sheet is refused, with its line. */
 static void refused_sheets(void)
 {
     static const struct {
@@ -129,7 +129,7 @@ static void refused_sheets(void)
         CHECK(told.line == cases[i].line && told.why == cases[i].why);
         CHECK(told.rows == 0 && told.tracks == 0 && told.has_catalogue == 0 && told.catalogue[0] == 0);
         CHECK(memcmp(rows, kept, sizeof rows) == 0);
-        /* So it is where malloc refuses. */
+        /* The same if malloc fails. */
         memset(&told, 9, sizeof told);
         refused = requests;
         CHECK(ribjasper_sheet(bytes_of(cases[i].text), strlen(cases[i].text), rows, ROWS, &told) == RIBJASPER_TORN);
@@ -173,7 +173,7 @@ static void largest_sheet(void)
     CHECK(held == 0);
 }
 
-/* Each request of memory is refused once: nothing is written, and all is given back. */
+/* Each request for memory is refused once: nothing is written, and everything is freed. */
 static void refused_memory(void)
 {
     size_t length = strlen(sheet);
@@ -227,7 +227,7 @@ static void too_long(void)
 
 static void weights(void)
 {
-    /* A set of colours takes as many packs as the differences of its numbers have independent ones. */
+    /* A set of colours needs as many packs as the differences of its numbers have independent ones. */
     static const struct {
         uint8_t colours[5];
         int32_t packs;

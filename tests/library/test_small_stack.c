@@ -1,6 +1,6 @@
-/* How much of a stack each call of the library takes. Every call is run on a stack of its own, which is painted before; it
-   may touch LIMIT bytes of it at most, and one that mends LIMIT_MENDING. malloc and free, which belong to the C library,
-   stand on that stack too. Prints the most that a call took. Its argument is an authored stream with texts, whose first 200 blocks are of the lead-in. */
+/* Measures how much stack each call of the library uses. Every call runs on its own painted stack; it may touch at most LIMIT
+   bytes of it, and one that mends LIMIT_MENDING. malloc and free of the C library use that stack too. Prints the maximum. The
+   argument is an authored stream with texts, whose first 200 blocks are the lead-in. */
 #define _GNU_SOURCE
 #include "ribjasper.h"
 
@@ -90,7 +90,7 @@ static void tell_counts(void)
 
 static void draw(void)
 {
-    /* Each instruction in turn: memory, border, tiles, scrolls, transparent colours and the table. */
+    /* Each instruction in turn: memory, border, tiles, scrolls, transparency levels and the table. */
     static const uint8_t kinds[9] = { 1, 2, 6, 38, 20, 24, 28, 30, 31 };
     uint8_t pack[24];
     int k, at;
@@ -180,7 +180,7 @@ static void mend(void)
     answer = ribjasper_mend(idle, sizeof idle, worn, sizeof worn, 0, packs, sizeof packs, &told);
 }
 
-/* All readings at once, of which one has no R to W. */
+/* The greatest number of readings, one of them without R to W. */
 static void mend_readings(void)
 {
     static uint8_t readings[3 * sizeof worn];
@@ -232,7 +232,7 @@ static void run(void)
     call();
 }
 
-/* How many bytes of the stack a call touches. */
+/* The number of bytes of the stack that a call touches. */
 static size_t taken_by(void (*tried)(void))
 {
     size_t clean = 0;
@@ -299,7 +299,7 @@ int main(int count, char **words)
     }
     fclose(authored);
     for (k = 0; k < sizeof stream; k++) {
-        /* Codewords of zeros with a wrong symbol here and there, so that all ways of correcting are gone. */
+        /* Codewords of zeros with some wrong symbols, so that all ways of correction are used. */
         number = number * 1664525u + 1013904223u;
         worn[k] = number >> 24 < 20 ? (uint8_t)(number >> 8) : 0;
         stream[k] = number >> 24 > 240 ? (uint8_t)(number >> 10) : 0;

@@ -1,7 +1,7 @@
 #!/bin/sh
-# How much of a stack is taken. Each call of lib/libribjasper.a is run on a painted stack and may touch 16 KiB of it,
-# one that mends 80 (tests/library/test_small_stack.c), and commands of bin/ribjasper run with a stack of 64 KiB as with an ample one. Skipped where
-# a compiler or what make builds is missing.
+# Measures the use of the stack. Each call of lib/libribjasper.a runs on a painted stack and may touch 16 KiB of it, one that
+# mends 80 KiB (tests/library/test_small_stack.c), and commands of bin/ribjasper do the same with a stack of 64 KiB as with an
+# ample one. Skipped if a compiler or something that make builds is missing.
 set -e
 cd "$(dirname "$0")/../.."
 command -v cc >/dev/null || { echo "small_stack: skipped, there is no cc"; exit 0; }
@@ -23,7 +23,7 @@ bin/ribjasper author --lead-in 300 --length 00:20:00 -- "$work/sheet" "$work/scr
 cc -O2 -Wall -Wextra -Werror -std=gnu99 -Iinclude tests/library/test_small_stack.c lib/libribjasper.a -o "$work/test_small_stack"
 "$work/test_small_stack" "$work/authored"
 
-# A stack that is too small has to be noticed.
+# A stack that is too small must be detected.
 if (ulimit -s 8 && exec bin/ribjasper check --lead-in 300 -- "$work/authored") >"$work/none" 2>&1; then
     echo "small_stack: a limit of 8 KiB is not kept"
     exit 1

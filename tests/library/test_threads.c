@@ -1,6 +1,6 @@
-/* Eight threads look at one player at the same time, by every call that takes a const player, and each must see what one
-   thread sees. tests/library/test_threads.sh runs it also under tools that notice a write by one thread to what another
-   reads. */
+/* Eight threads read one player at the same time, with every call that takes a const player, and each must get what one
+   thread gets. tests/library/test_threads.sh also runs it under tools that detect a write of one thread to data that another
+   one reads. */
 #include "ribjasper.h"
 
 #include <pthread.h>
@@ -11,7 +11,7 @@
 #define THREADS 8
 #define PIECE 40000
 
-/* All that the calls write of a player. */
+/* All data that the calls write about a player. */
 typedef struct look {
     uint8_t pixels[RIBJASPER_PIXELS], picture[RIBJASPER_PICTURE], piece[PIECE], shown[PIECE];
     uint8_t file[RIBJASPER_CHECKPOINT], levels[RIBJASPER_COLOURS], border, across, down, pixel;
@@ -23,7 +23,7 @@ static ribjasper_player player = RIBJASPER_CLOSED_STATIC;
 static look expected;
 static int rounds = 100;
 
-/* Looks by every call; returns how many calls failed. */
+/* Makes every call; returns how many failed. */
 static int see(look *it, ribjasper_player *other)
 {
     int failed = 0;

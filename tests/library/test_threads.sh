@@ -1,6 +1,6 @@
 #!/bin/sh
-# Eight threads that look at one player at the same time: as they are, with ThreadSanitizer in the program (it sees the
-# memory that the program hands to the library), and under DRD, which sees every read and write of the library too.
+# Eight threads read one player at the same time: without a tool, with ThreadSanitizer in the program (which sees the memory
+# that the program passes to the library), and under DRD, which sees every read and write of the library too.
 set -e
 cd "$(dirname "$0")/../.."
 [ -f lib/libribjasper.a ] || { echo "test_threads: skipped, there is no lib/libribjasper.a (make library)"; exit 0; }

@@ -1,5 +1,5 @@
-/* What the tests of the library share: CHECK, which tells what does not hold, and a heap that counts. The link hands malloc,
-   realloc and free to the functions below (-Wl,--wrap), so that requests can be refused and what is held can be counted. */
+/* What the tests of the library share: CHECK, which reports a failed test, and a heap that counts. The linker replaces malloc,
+   realloc and free by the functions below (-Wl,--wrap), so that requests can be refused and allocations counted. */
 #ifndef RIBJASPER_TESTING_H
 #define RIBJASPER_TESTING_H
 

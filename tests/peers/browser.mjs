@@ -1,4 +1,4 @@
-// A Chromium without a window, driven by its own protocol.
+// A Chromium without a window, controlled by its debugging protocol.
 import assert from "node:assert/strict";
 import { spawn } from "node:child_process";
 import { mkdirSync, writeFileSync } from "node:fs";
@@ -68,7 +68,7 @@ export class Browser {
         return new Promise((done, failed) => { this.#waiting.set(id, { done, failed }); });
     }
 
-    /** What an expression of the page gives. */
+    /** The value of an expression in the page. */
     async value(expression, userGesture = false) {
         const { result, exceptionDetails } = await this.send("Runtime.evaluate",
             { expression, awaitPromise: true, returnByValue: true, userGesture });
@@ -102,7 +102,7 @@ export class Browser {
         await this.until("globalThis.page !== undefined");
     }
 
-    /** Chooses files, and gives what the page says when they are opened. */
+    /** Chooses files, and returns the message of the page after they were opened. */
     async open(...files) {
         await this.value("document.getElementById('told').textContent = ''");
         const { root } = await this.send("DOM.getDocument");

@@ -1,6 +1,7 @@
 #!/bin/sh
-# The player as plain C (tools/build/make_c.sh): its pictures are those of the command `screen`, compiled by gcc, by clang and, if wine is
-# there, by mingw. Skipped if a tool, or what make builds, is missing. With the argument `measure` a block and a picture are measured.
+# The player as plain C (tools/build/make_c.sh): its pictures equal those of the command `screen`, compiled by gcc, by clang
+# and, if wine is there, by mingw. Skipped if a tool or something that make builds is missing. With the argument `measure` a
+# block and a picture are measured.
 set -e
 cd "$(dirname "$0")/../.."
 [ -f lib/web/ribjasper32.wasm ] || { echo "compare_c: skipped, there is no lib/web/ribjasper32.wasm (make web)"; exit 0; }
@@ -14,7 +15,7 @@ tools/build/make_c.sh "$work/c" >/dev/null
 cp examples/hello.cue examples/hello.script "$work"
 top=$PWD
 (cd "$work" && "$top/bin/ribjasper" author --lead-in 0 --length 00:22:00 -- hello.cue hello.script >stream)
-# A scratched stream is corrected here too.
+# A scratched stream is also corrected.
 bin/ribjasper scratch --lead-in 0 --seed 3 <"$work/stream" >"$work/scratched"
 failed=0
 try() {

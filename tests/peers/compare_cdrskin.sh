@@ -1,11 +1,10 @@
 #!/bin/sh
-# Compares the CD-TEXT packs in the lead-in of streams that we author with those that libburn, the
-# library of cdrskin, makes of the same cue sheets, byte for byte: titles, performers and songwriters,
-# catalogue numbers and ISRC, the places in strings of every length, the sizes and the checks. Then
-# cdrskin lists our packs, and each title has to be among its lines. The sheets keep to what both read
-# alike: plain ASCII, tracks from 1 on, at most 255 packs (we write 256 too). Then a bit is turned in the
-# first and in a later round of packs, and that has to be noticed. Skipped where cdrskin or bin/ribjasper
-# is missing.
+# Compares the CD-TEXT packs in the lead-in of authored streams with those that libburn, the library of cdrskin, makes
+# from the same cue sheets, byte for byte: titles, performers and songwriters, catalogue numbers and ISRC, the positions
+# in strings of every length, the sizes and the checks. Then cdrskin lists our packs, and each title must be among its
+# lines. The sheets only contain what both read in the same way: plain ASCII, tracks from 1 on, at most 255 packs (we
+# write 256 too). Then one bit is flipped in the first and in a later round of packs, and this must be detected. Skipped
+# if cdrskin or bin/ribjasper is missing.
 set -e
 cd "$(dirname "$0")/../.."
 command -v cdrskin >/dev/null || { echo "compare_cdrskin: skipped, there is no cdrskin (apt-get install cdrskin)"; exit 0; }
@@ -13,7 +12,7 @@ command -v cdrskin >/dev/null || { echo "compare_cdrskin: skipped, there is no c
 work=$(mktemp -d)
 trap 'rm -rf "$work"' EXIT
 
-# Eight seconds of silence, which libburn wants to see.
+# Eight seconds of silence, which libburn requires.
 python3 - "$work/silence.wav" <<'END'
 import sys, wave
 with wave.open(sys.argv[1], "wb") as audio:
@@ -31,7 +30,7 @@ TITLE "One"
 INDEX 01 00:00:00
 END
 
-# Strings of twelve letters, of more than fifteen, and none; both codes.
+# Strings of twelve letters, of more than fifteen, and empty ones; both codes.
 cat >"$work/kinds.cue" <<END
 CATALOG 0123456789012
 TITLE "ABCDEFGHIJKL"
@@ -52,7 +51,7 @@ ISRC GBAAA2400003
 INDEX 01 00:04:00
 END
 
-# Thirty tracks whose titles have from one letter to thirty.
+# Thirty tracks whose titles have one to thirty letters.
 {
     printf 'TITLE "Letters"\nFILE "%s/silence.wav" WAVE\n' "$work"
     letters=
@@ -64,13 +63,13 @@ END
 
 : >"$work/empty.script"
 failed=0
-# Whether the packs in a lead-in are those of libburn: same_packs STREAM SHEET
+# same_packs STREAM SHEET: whether the packs in a lead-in equal those of libburn
 same_packs() {
     head -c $((150 * 96)) "$1" | python3 tests/peers/lead_in_packs.py >"$work/ours" 2>"$work/told" &&
         [ -s "$work/ours" ] && cmp -s "$work/ours" "$work/$2.theirs"
 }
 
-# Turns the last bit of a byte of a file: turn_bit FILE PLACE
+# turn_bit FILE PLACE: flips the last bit of a byte of a file
 turn_bit() {
     python3 -c '
 import sys

@@ -1,11 +1,10 @@
 #!/bin/sh
-# Compares our screens with ffmpeg's decoding of the packs that we convert, at several moments of a
-# stream with all nine graphics instructions, pixel by pixel in the window inside the border. The scene
-# keeps to what both read alike: presets repeat 0, the border has the memory's own colour and no offset
-# across is set (docs/GUIDE.md lists where ffmpeg differs). What ffmpeg does not show, the border and
-# the levels of transparency, is compared with what examples/graphics_stream.py set. Then each
-# instruction is left out in turn, and that has to be noticed. Skipped where ffmpeg or bin/ribjasper is
-# missing.
+# Compares our screens with ffmpeg's decoding of the packs that we convert, at several frames of a stream with all nine
+# graphics instructions, pixel by pixel in the window inside the border. The scene only contains what both show in the
+# same way: presets repeat 0, the border has the colour of the memory, and no horizontal offset is set (docs/GUIDE.md
+# lists where ffmpeg differs). The border and the transparency levels, which ffmpeg does not show, are compared with the
+# values in examples/graphics_stream.py. Then each instruction is left out in turn, and this must be detected. Skipped if
+# ffmpeg or bin/ribjasper is missing.
 set -e
 cd "$(dirname "$0")/../.."
 command -v ffmpeg >/dev/null || { echo "compare_ffmpeg: skipped, there is no ffmpeg (apt-get install ffmpeg)"; exit 0; }
@@ -19,13 +18,13 @@ python3 examples/graphics_stream.py state >"$work/state"
 blocks=$(($(wc -c <"$work/scene.raw") / 96))
 end=$(printf '00:%02d:%02d' $((blocks / 75)) $((blocks % 75)))
 
-# Whether the picture of a stream at a frame is ffmpeg's: same_picture STREAM FRAME
+# same_picture STREAM FRAME: whether the picture of a stream at a frame equals ffmpeg's
 same_picture() {
     bin/ribjasper screen --lead-in 0 --at "$(printf '00:00:%02d' "$2")" <"$1" >"$work/ours.ppm"
     python3 tests/peers/same_window.py "$work/ours.ppm" "$work/theirs.$2.ppm"
 }
 
-# Whether border, offsets, colours and levels at the end of a stream are those that were set: same_state STREAM
+# same_state STREAM: whether border, offsets, colours and levels at the end of a stream are those that were set
 same_state() {
     bin/ribjasper state --lead-in 0 --at "$end" <"$1" | tr A-F a-f | cmp -s - "$work/state"
 }

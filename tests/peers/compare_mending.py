@@ -1,14 +1,14 @@
 #!/usr/bin/env python3
-"""Compares the library's mending with the rule as it is written here, on random readings of which the truth is known:
+"""Compares how the library mends random readings of known streams with the rule, which is written here a second time:
 compare_mending.py [--cases N] [--seed N] [--library lib/libribjasper.so.0]
 
 Each case is a stream of a few blocks and two to four readings of it: whole, scratched, worn, with noise in channels R
-to W, with zeros there (all or a part), unread (all or a part), shifted, or another stream's. The packs, the sources and
-the counts of ribjasper_mend_readings, the stream, the sources and the counts of ribjasper_mend_stream, with a lead-in and
-without one, and the packs and counts of ribjasper_mend for the first two, have to be those of the rule, and the packs the
-same in the reverse order, as the stream; and the words that are wrong are counted beside those of the best reading alone.
-No line is shared with the program: codewords are found in a table of all errors of one or two symbols by their sums
-(docs/FORMATS.md). Ends with 1 where something differs."""
+to W, with zeros there (all or a part), unread (all or a part), shifted, or of another stream. All results must be those
+of the rule: the packs, sources and counts of ribjasper_mend_readings; the stream, sources and counts of
+ribjasper_mend_stream, with and without a lead-in; and the packs and counts of ribjasper_mend for the first two
+readings. The packs and the stream must be the same in the reverse order. The wrong words of the result are counted
+beside those of the best single reading. No code is shared with the program: codewords are found in a table of the sums
+of all errors of one or two symbols (docs/FORMATS.md). The exit status is 1 if something differs."""
 import argparse
 import binascii
 import ctypes
@@ -48,7 +48,7 @@ class Pair(ctypes.Structure):
 
 
 class Given(NamedTuple):
-    """What a reading gives for a word: a codeword and what stands against it, or None for a word near no codeword."""
+    """The codeword of a reading at a word, with its distance; a word far from every codeword has none."""
 
     codeword: Optional[bytes]
     doubts: int
@@ -58,7 +58,7 @@ class Given(NamedTuple):
 
 
 def entry(place: int, symbol: int) -> int:
-    """What a symbol at a place adds to the six sums of a word, as one number."""
+    """The share of a symbol at a place in the six sums of a word, as one number."""
     sums = [times(power(j * (23 - place)), symbol) for j in range(4)]
     sums += [times(power(j * (3 - place)), symbol) if place < 4 else 0 for j in range(2)]
     return sum(value << 6 * j for j, value in enumerate(sums))
@@ -68,7 +68,7 @@ ENTRIES = [[entry(place, symbol) for symbol in range(64)] for place in range(24)
 
 
 def all_errors() -> Errors:
-    """The errors of one or two symbols by their sums."""
+    """All errors of one or two symbols, by their sums."""
     found: Errors = {0: ()}
     single = [((place, symbol), ENTRIES[place][symbol]) for place in range(24) for symbol in range(1, 64)]
     for error, sums in single:
@@ -100,7 +100,7 @@ def codeword(random_source: random.Random) -> bytes:
 
 
 def is_frame(block: bytes) -> bool:
-    """Whether the Q channel of a block, which is ten bytes of zeros and their check here, is a frame."""
+    """Whether the Q channel of a block is a frame; here every frame is ten bytes of zeros and their check."""
     bits = "".join(str(byte >> 6 & 1) for byte in block)
     frame = int(bits, 2).to_bytes(12, "big")
     return binascii.crc_hqx(frame[:10], 0) ^ 0xFFFF == int.from_bytes(frame[10:], "big")
@@ -111,7 +111,7 @@ def is_unread(block: bytes) -> bool:
 
 
 def given(reading: bytes, errors: Errors) -> list[Optional[Given]]:
-    """What a reading gives for each word; None where it was not read."""
+    """What a reading has at each word; None if the word was not read."""
     empty = [is_unread(reading[at : at + 96]) for at in range(0, len(reading), 96)]
     found: list[Optional[Given]] = []
     for n in range(len(reading) // 24 - 7):
@@ -136,19 +136,19 @@ def word_at(reading: bytes, n: int) -> bytes:
 
 
 def agreement(one: bytes, other: bytes, errors: Errors) -> Optional[bytes]:
-    """The codeword on which two words agree: tried by changing one of them at up to four places where they differ, and
-    at those where both are equally wrong."""
+    """The codeword on which two words agree, found by trial: one word is changed in up to four places where the words
+    differ, and in places where both are equally wrong."""
     apart = [place for place in range(24) if one[place] != other[place]]
     if len(apart) > 4:
         return None
     left = (4 - len(apart)) // 2
-    # The symbols where they differ are free; the sums of the others tell what is possible.
+    # The symbols at which they differ are free; the sums of the others show which errors are possible.
     return search(bytearray(one), apart, left, errors)
 
 
 def search(word: bytearray, apart: list[int], left: int, errors: Errors) -> Optional[bytes]:
     if len(apart) <= 2:
-        # At most two places are free and two or one may be wrong beside them.
+        # At most two places are free, and one or two others may be wrong.
         for values in itertools.product(range(64), repeat=len(apart)):
             for place, value in zip(apart, values):
                 word[place] = value
@@ -159,7 +159,7 @@ def search(word: bytearray, apart: list[int], left: int, errors: Errors) -> Opti
                     right[place] ^= error
                 return bytes(right)
         return None
-    # Three or four places are free: any two of them by trial, and the two others, if anything, are an error.
+    # Three or four places are free: two of them are tried, and the other two must be an error of two symbols.
     first, rest = apart[:2], apart[2:]
     for values in itertools.product(range(64), repeat=2):
         for place, value in zip(first, values):
@@ -178,7 +178,7 @@ USED = (8, 9, 10, 24)
 
 
 def is_graphics(found: Optional[Given]) -> bool:
-    """Whether it is a codeword that is not idle, and either no symbol is wrong or it is a graphics pack."""
+    """Whether it is a codeword that is not idle, and is either error-free or a graphics pack."""
     if found is None or found.codeword is None or found.codeword == IDLE:
         return False
     return found.doubts == 0 or (found.codeword[0] == 9 and found.codeword[1] in KNOWN)
@@ -189,14 +189,14 @@ def is_quiet(found: Optional[Given]) -> bool:
 
 
 def is_doubtful(found: Optional[Given]) -> bool:
-    """Whether it is a codeword of a mode and item that no disc carries, and symbols are wrong."""
+    """Whether it is a codeword with wrong symbols whose mode and item no disc uses."""
     if found is None or found.codeword is None or found.codeword == IDLE:
         return False
     return found.doubts > 0 and found.codeword[0] not in USED
 
 
 def dropped(all_given: Sequence[Sequence[Optional[Given]]]) -> list[list[bool]]:
-    """For each reading, at which words what it gives counts for nothing."""
+    """For each reading, the words at which its codeword does not count."""
     count = len(all_given[0])
     graphics = [any(is_graphics(own[n]) for own in all_given) for n in range(count)]
     quiet = [any(is_quiet(own[n]) for own in all_given) for n in range(count)]
@@ -213,7 +213,7 @@ def dropped(all_given: Sequence[Sequence[Optional[Given]]]) -> list[list[bool]]:
 
 
 def mend(readings: Sequence[bytes], errors: Errors) -> tuple[list[bytes], list[int], list[int]]:
-    """The pack of each word, its source, and how often each reading was left out."""
+    """The pack of each word, its source, and the number of dropped codewords of each reading."""
     all_given = [given(reading, errors) for reading in readings]
     marks = dropped(all_given)
     packs, sources = [], []
@@ -249,19 +249,19 @@ def mend(readings: Sequence[bytes], errors: Errors) -> tuple[list[bytes], list[i
 
 
 def most_frequent(values: Sequence[bytes]) -> bytes:
-    """The value that occurs most often; of several, the greatest."""
+    """The value that occurs most often; of several such values, the greatest."""
     return max(values, key=lambda value: (values.count(value), value))
 
 
 def chosen_channels(blocks: Sequence[bytes]) -> bytes:
-    """Channels P and Q that most of the blocks with a good frame have, or else most that were read."""
+    """The channels P and Q that most blocks with a good frame have, or otherwise most blocks that were read."""
     framed = [block for block in blocks if is_frame(block)]
     read = [block for block in blocks if not is_unread(block)]
     return most_frequent([bytes(byte & 0xC0 for byte in block) for block in framed or read or blocks])
 
 
 def chosen_symbols(blocks: Sequence[bytes], known: Sequence[Optional[int]]) -> bytes:
-    """The symbols of a block that was read: of one with the most known symbols, and then what most have."""
+    """The symbols of a block that was read: of a block with the most known symbols, and of these the most frequent."""
     read = [bytes(byte & 0x3F for byte in block) for block in blocks if not is_unread(block)] or [bytes(96)]
     completed = [bytes(own if mended is None else mended for own, mended in zip(block, known)) for block in read]
     matches = [sum(own == mended for own, mended in zip(block, known)) for block in read]
@@ -269,7 +269,7 @@ def chosen_symbols(blocks: Sequence[bytes], known: Sequence[Optional[int]]) -> b
 
 
 def mended_stream(readings: Sequence[bytes], lead_in: int, errors: Errors) -> tuple[bytes, list[int]]:
-    """The stream of readings whose first blocks are passed over, and the source of each word."""
+    """The stream of some readings without their first blocks, and the source of each word."""
     known: list[Optional[int]] = [None] * len(readings[0])
     packs, sources, _ = mend([own[96 * lead_in :] for own in readings], errors)
     for n, (pack, source) in enumerate(zip(packs, sources)):
@@ -287,7 +287,7 @@ def mended_stream(readings: Sequence[bytes], lead_in: int, errors: Errors) -> tu
 
 
 def q_bits() -> list[int]:
-    """The bits of a frame of zeros, the highest of a byte each."""
+    """The Q bits of a frame of zeros, from the highest bit of each byte."""
     frame = bytes(10) + (binascii.crc_hqx(bytes(10), 0) ^ 0xFFFF).to_bytes(2, "big")
     return [frame[k // 8] >> (7 - k % 8) & 1 for k in range(96)]
 
@@ -296,7 +296,7 @@ Q = q_bits()
 
 
 def stream(source: random.Random, blocks: int, busy: float, words: Sequence[bytes]) -> bytearray:
-    """Blocks with a frame in each; so many of their packs are graphics."""
+    """Blocks with a frame each; `busy` is the share of graphics packs."""
     out = bytearray(byte << 6 for _ in range(blocks) for byte in Q)
     on = False
     for n in range(4 * blocks - 7):
@@ -414,7 +414,7 @@ def wrong(packs: Sequence[bytes], truth: Sequence[bytes]) -> int:
 
 
 class Tally:
-    """Words that are wrong in what is mended, beside those of the best reading alone."""
+    """The numbers of wrong words in the result, and in the best single reading."""
 
     def __init__(self) -> None:
         self.cases = self.words = self.fewer = self.worse = self.more = 0
@@ -434,7 +434,7 @@ class Tally:
 
 
 def stream_differs(library: Library, readings: Sequence[bytes], lead_in: int, errors: Errors) -> bool:
-    """Whether the stream that the library wrote, or what it told of it, is not what the rule says."""
+    """Whether the stream from the library, or its sources and counts, differ from the rule."""
     length = len(readings[0])
     blocks, sources, told, status = library.stream(readings, lead_in)
     right, right_sources = mended_stream(readings, lead_in, errors)
@@ -457,7 +457,7 @@ def differs(
     status: int,
     errors: Errors,
 ) -> bool:
-    """Whether anything that the library answered is not what the rule says."""
+    """Whether any result of the library differs from the rule."""
     packs, right_sources, left = mend(readings, errors)
     pair_packs, pair, pair_status = library.pair(readings[0], readings[1])
     two, two_sources, _ = mend(readings[:2], errors)

@@ -1,14 +1,14 @@
 #!/usr/bin/env python3
 """Compares two builds of the program on random calls: compare_programs.py OLD NEW [--calls N] [--seed S].
 
-Each call runs both programs on the same words and inputs; standard output, standard error and the status have to
-be the same. The table says how many calls of each command ended with each status, and the list below it how often
-each line was told. A difference is told with the command that shows it, whose inputs are kept, and the exit status
-is then 1. Calls that end for want of memory in either program are not compared.
+Each call runs both programs on the same words and inputs; standard output, standard error and the exit status must be
+equal. The table shows how many calls of each command ended with each status, and the list below it how often each line
+was printed. A difference is reported with the command that shows it; its inputs are kept, and the exit status is then
+1. Calls that end out of memory in either program are not compared.
 
-Inputs come of the seed and of OLD alone: what it writes in one call is an input of later ones, whole, worn, torn
-or mixed. No check of a format is worked out here. The checks of Q frames, text packs and checkpoints are
-remainders, so three good ones combined by exclusive or have a good check again, mostly with fields out of range.
+Inputs depend only on the seed and on OLD: its output of one call is an input of later ones, whole, worn, torn or mixed.
+No check of a format is computed here. The checks of Q frames, text packs and checkpoints are remainders, so three good
+ones combined by exclusive or have a good check again, mostly with fields out of range.
 """
 import argparse
 import os
@@ -34,16 +34,16 @@ BLOCK, SECTOR_AUDIO, PACK = 96, 2352, 24
 SECOND = 75
 NO_MEMORY = 7
 SECONDS_ALLOWED = 120
-# How many inputs of a kind are remembered, and of how many bytes at most.
+# The number of inputs of a kind that are kept, and their greatest size in bytes.
 POOL, POOLED_BYTES = 60, 700_000
-# The bytes after which a stream or a `.cdg` file, and a text, are too long.
+# The sizes in bytes above which a stream or a `.cdg` file, and a text, are too long.
 STREAM_LIMIT, TEXT_LIMIT = 96_000_000, 67_108_864
 INSTRUCTIONS = (1, 2, 6, 20, 24, 28, 30, 31, 38)
 
-# What the commands write that make no stream: the kind of input that it is for later calls.
+# The outputs of commands that write no stream: the kind of input that they are for later calls.
 PRODUCTS = dict(convert="cdg", merge="cdg", thin="cdg", save="saves", planar="planar", gen="scripts")
 
-# Values that a word may not have, or just may.
+# Values that are just valid, or just not.
 ODD = {
     "N": ("450000", "450001", "0", "00", "01", "-1", "+1", "1x", "", " 1", "4294967296", "1" + 20 * "0"),
     "S": ("0", "18446744073709551615", "18446744073709551616", "00", "-7", "7.", "", "1" + 23 * "0"),
@@ -55,7 +55,7 @@ STRAY_WORDS = ("", "--", "--at", "--form", "--lead-in", "raw", "0", "--help", "Ã
 
 
 class Option(NamedTuple):
-    """An option of a command: its word, the letter of its value, and whether it may be left out."""
+    """An option of a command: its word, the letter of its value, and whether it is optional."""
 
     word: str
     letter: str
@@ -63,7 +63,7 @@ class Option(NamedTuple):
 
 
 class Stream(NamedTuple):
-    """Raw blocks, and how many of them are lead-in."""
+    """Raw blocks, and the number of those in the lead-in."""
 
     data: bytes
     lead_in: int
@@ -73,7 +73,7 @@ class Stream(NamedTuple):
 
 
 class Inputs(NamedTuple):
-    """What a call reads, and the values that suit it."""
+    """The inputs of a call, and the option values that suit them."""
 
     first: bytes = b""
     second: bytes | None = None
@@ -92,7 +92,7 @@ class Call(NamedTuple):
 
 
 class Outcome(NamedTuple):
-    """What came of a call; the status is None where it did not end."""
+    """The result of a call; the status is None if the call did not end."""
 
     status: int | None
     output: bytes
@@ -100,7 +100,7 @@ class Outcome(NamedTuple):
 
 
 def commands() -> dict[str, list[Option]]:
-    """The commands and their options, as the table of the formats says."""
+    """The commands and their options, from the table of the formats."""
     found = {}
     for words, *_ in table(FORMATS.read_text(), HEAD):
         name, _, rest = bare(words).partition(" ")
@@ -113,12 +113,12 @@ COMMANDS = commands()
 
 
 def time_of(blocks: int) -> str:
-    """A number of blocks as a time."""
+    """A number of blocks, written as a time."""
     return f"{blocks // SECOND // 60 % 100:02}:{blocks // SECOND % 60:02}:{blocks % SECOND:02}"
 
 
 def combined(first: bytes, second: bytes, third: bytes) -> bytes:
-    """Three pieces combined by exclusive or, as long as the shortest."""
+    """Three byte strings combined by exclusive or, cut to the shortest."""
     length = min(len(first), len(second), len(third))
     numbers = [int.from_bytes(piece[:length]) for piece in (first, second, third)]
     return (numbers[0] ^ numbers[1] ^ numbers[2]).to_bytes(length)
@@ -129,7 +129,7 @@ def blocks_of(data: bytes) -> list[bytes]:
 
 
 class Texts:
-    """Cue sheets and picture scripts, right ones and spoiled ones."""
+    """Cue sheets and picture scripts, valid and spoiled ones."""
 
     def __init__(self, rng: random.Random) -> None:
         self.rng = rng
@@ -137,7 +137,7 @@ class Texts:
 
     @staticmethod
     def examples() -> list[str]:
-        """The example lines of what is refused, as the formats give them."""
+        """The example lines of refused texts, from the formats."""
         return [line for rows in reasons(FORMATS.read_text()).values() for _, cell, _ in rows for line in quoted(cell)]
 
     def chance(self, share: float) -> bool:
@@ -151,7 +151,7 @@ class Texts:
         return f'"{"".join(letters)}"'
 
     def names(self, share: float) -> list[str]:
-        """Lines of texts, each with a chance."""
+        """Lines of texts, each with a probability."""
         words = [word for word in ("TITLE", "PERFORMER", "SONGWRITER") if self.chance(share)]
         return [f"{word} {self.quoted()}" for word in words]
 
@@ -173,7 +173,7 @@ class Texts:
         return lines, at
 
     def sheet(self) -> tuple[list[str], int, int]:
-        """The lines of a right sheet, its number of tracks, and the length that it needs at least."""
+        """The lines of a valid sheet, its number of tracks, and its least length."""
         lines = ["REM by seed"] if self.chance(0.2) else []
         if self.chance(0.4):
             lines.append(f"CATALOG {self.digits(13)}")
@@ -203,7 +203,7 @@ class Texts:
         )
 
     def script(self, shows: int) -> tuple[list[str], int]:
-        """The lines of a script, and the last hold time."""
+        """The lines of a script, and its last hold time."""
         lines, at = [], 0
         for _ in range(shows):
             lines += [self.drawing() for _ in range(self.rng.randint(0, 6))]
@@ -213,7 +213,7 @@ class Texts:
         return lines, at
 
     def spoiled(self, lines: list[str]) -> list[str]:
-        """Lines with a fault on any one of them."""
+        """Lines with an error in one of them."""
         made = lines or [""]
         place = self.rng.randrange(len(made))
         line = made[place]
@@ -231,7 +231,7 @@ class Texts:
         return [*made[:place], *instead, *made[place + 1 :]]
 
     def written(self, lines: list[str], share: float = 0.25) -> bytes:
-        """Lines as a file, with a share of spoiled ones, and with the ends and beginnings that are allowed."""
+        """Lines as a file; a share of the files is spoiled, and they begin and end in all ways that are allowed."""
         if self.chance(share):
             lines = self.spoiled(lines)
         end = "\r\n" if self.chance(0.1) else "\n"
@@ -240,7 +240,7 @@ class Texts:
 
 
 class Maker:
-    """Makes calls. What the old program writes is remembered and worked into later inputs."""
+    """Makes calls. The outputs of the old program are stored and used in later inputs."""
 
     def __init__(self, rng: random.Random) -> None:
         self.rng = rng
@@ -258,7 +258,7 @@ class Maker:
             pool[self.rng.randrange(POOL)] = made
 
     def learn(self, call: Call, output: bytes) -> None:
-        """Remembers what a call of the old program wrote with status 0."""
+        """Stores the output of a call of the old program that ended with status 0."""
         if not 0 < len(output) <= POOLED_BYTES or call.full:
             return
         if call.command in ("author", "press", "scratch"):
@@ -267,23 +267,23 @@ class Maker:
         elif call.command in PRODUCTS:
             self.remember(self.pools[PRODUCTS[call.command]], output)
 
-    # Pieces of inputs.
+    # Parts of inputs.
 
     def noise(self, length: int) -> bytes:
         return self.rng.randbytes(length)
 
     def size(self) -> int:
-        """A number of blocks: few mostly, sometimes hundreds or thousands."""
+        """A number of blocks: mostly few, sometimes hundreds or thousands."""
         return self.rng.choice((0, 1, 2, 3, 8, 20, 20, 40, 40, 300, 8000))
 
     def window(self, stream: Stream) -> Stream:
-        """Some blocks of a stream, from its beginning or from further on."""
+        """Some blocks of a stream, from its beginning or from a later block."""
         first = self.rng.choice((0, 0, max(0, stream.lead_in - 3), self.rng.randint(0, stream.blocks())))
         data = stream.data[first * BLOCK : (first + self.size()) * BLOCK]
         return Stream(data, max(0, stream.lead_in - first))
 
     def flipped(self, data: bytes) -> bytes:
-        """Bytes of which some are combined with others."""
+        """Bytes with some of them combined with other values."""
         made = bytearray(data)
         for _ in range(self.rng.choice((1, 1, 3, 10, 60)) if made else 0):
             made[self.rng.randrange(len(made))] ^= self.rng.choice((1, 64, 128, self.rng.randrange(1, 256)))
@@ -293,19 +293,19 @@ class Maker:
         return data[: self.rng.randint(0, len(data))]
 
     def lost(self, data: bytes) -> bytes:
-        """Blocks of which a stretch is zeros."""
+        """Blocks with a stretch of zeros."""
         first, last = sorted(self.rng.randint(0, len(data)) for _ in range(2))
         length = min(last - first, 40 * BLOCK)
         return data[:first] + bytes(length) + data[first + length :]
 
     def shuffled(self, data: bytes) -> bytes:
-        """The blocks in another order, or some of them several times over."""
+        """The blocks in another order, or with some of them repeated."""
         blocks = blocks_of(data)
         several = self.rng.choices(blocks, k=len(blocks)) if blocks and self.chance(0.5) else None
         return b"".join(several or self.rng.sample(blocks, len(blocks)))
 
     def spliced(self, data: bytes) -> bytes:
-        """Blocks of this stream and of another one, in their places."""
+        """Blocks of this stream and of another one, at their places."""
         other = blocks_of(self.rng.choice(self.streams).data)
         return b"".join(self.rng.choice(pair) for pair in zip(blocks_of(data), other))
 
@@ -316,7 +316,7 @@ class Maker:
         return combined(data, second[shift:], third)
 
     def worn(self, data: bytes) -> bytes:
-        """Raw blocks after one of the things that may happen to them."""
+        """Raw blocks after one kind of damage."""
         how: tuple[Callable[[bytes], bytes], ...] = (
             *(lambda whole: whole,) * 6,
             *(self.flipped,) * 5,
@@ -330,14 +330,14 @@ class Maker:
         return self.rng.choice(how)(data)
 
     def raw(self) -> Stream:
-        """A raw stream, as it came or worn."""
+        """A raw stream, unchanged or worn."""
         taken = self.rng.choice(self.streams)
         if self.chance(0.9):
             taken = self.window(taken)
         return Stream(self.worn(taken.data), taken.lead_in)
 
     def pack(self) -> bytes:
-        """A pack of a `.cdg` file without parity: idle, one of the instructions, or anything."""
+        """A pack of a `.cdg` file without parity: idle, one of the instructions, or random bytes."""
         rng = self.rng
         kind = rng.choice((0, 0, 1, 1, 1, 1, 2))
         if kind == 0:
@@ -351,7 +351,7 @@ class Maker:
         return bytes((9, instruction, 0, 0, *content, 0, 0, 0, 0))
 
     def packs(self) -> bytes:
-        """A `.cdg` file: one that was written, or one made here."""
+        """A `.cdg` file: an output of the program, or one made here."""
         if self.chance(0.4):
             made = self.rng.choice(self.pools["cdg"])[: PACK * self.rng.choice((3, 40, 400, 9000))]
         else:
@@ -361,7 +361,7 @@ class Maker:
         return self.rng.choice(ways)(made)
 
     def cooked(self) -> bytes:
-        """Blocks of four packs, with their parity where they come of a stream."""
+        """Blocks of four packs, with their parity if they come from a stream."""
         data = self.rng.choice(self.pools["cdg"])[: BLOCK * self.size()] if self.chance(0.8) else self.packs()
         return self.worn(data + bytes(-len(data) % BLOCK))
 
@@ -374,7 +374,7 @@ class Maker:
     # The inputs of each command.
 
     def moment(self, blocks: int) -> int:
-        """A time for a program of so many blocks, seldom past its end."""
+        """A time in a program of this many blocks, seldom beyond its end."""
         whole = max(0, blocks)
         return self.rng.choice((*(self.rng.randint(0, whole),) * 8, whole, whole + 1, max(0, whole - 1)))
 
@@ -392,7 +392,7 @@ class Maker:
         return made._replace(first=self.sectors(made.first)) if form == "sector" else made
 
     def a_sheet(self) -> tuple[bytes, int, int]:
-        """A sheet, a number of lead-in blocks and a length for it, mostly enough."""
+        """A sheet, with a number of lead-in blocks and a length that mostly suffice."""
         lines, tracks, need = self.texts.sheet()
         length = self.rng.choice((need, need + 40, need + 300, need + 900, self.rng.randint(0, need)))
         enough = 3 * tracks + 9
@@ -425,7 +425,7 @@ class Maker:
         return Inputs(self.packs())
 
     def a_checkpoint(self) -> Inputs:
-        """A checkpoint and a rest of some stream, mostly whole."""
+        """A checkpoint and the rest of some stream, mostly whole."""
         saves = self.pools["saves"]
         save = self.rng.choice(saves)
         how = self.rng.choice("wwwwwwwmmmftl")
@@ -449,7 +449,7 @@ class Maker:
         return Inputs(self.torn(data) if self.chance(0.2) else data)
 
     def huge(self, command: str) -> Inputs:
-        """An input at its limit, or past it."""
+        """An input at its size limit, or beyond it."""
         limit = TEXT_LIMIT if command in ("author", "press") else STREAM_LIMIT
         data = bytes(limit + self.rng.choice((-1, 0, 1, BLOCK)))
         return Inputs(data, b"", self.rng.choice((0, 450_000)))
@@ -484,7 +484,7 @@ class Maker:
         return time_of(inputs.at) if letter == "T" else inputs.form
 
     def mangled(self, words: list[str | bytes]) -> list[str | bytes]:
-        """Words of which one is left out, doubled, moved, changed or new."""
+        """Words of which one is removed, doubled, moved, changed or added."""
         made = list(words)
         place, other = self.rng.randrange(len(made)), self.rng.randrange(len(made))
         how = self.rng.randrange(7)
@@ -506,7 +506,7 @@ class Maker:
         return made
 
     def names(self, inputs: Inputs) -> list[str]:
-        """What stands behind the words: names of files, or nothing where standard input is read."""
+        """The file names behind the words, or nothing if standard input is read."""
         if self.chance(0.04):
             names = ("first", "second", "missing", ".", "")
             return ["--", *self.rng.choices(names, k=self.rng.randint(0, 3))]
@@ -527,7 +527,7 @@ class Maker:
         return Call(command, words, inputs, self.chance(0.02))
 
     def beginnings(self) -> list[Call]:
-        """Calls that give the first inputs: right discs, some of them long, and what comes of them."""
+        """Calls that make the first inputs: valid discs, some of them long, and what is made from them."""
         made = []
         for number in range(24):
             sheet, tracks, need = self.texts.sheet()
@@ -543,7 +543,7 @@ class Maker:
         return made
 
     def followers(self) -> list[Call]:
-        """Calls on the first streams that give the first inputs of other kinds."""
+        """Calls on the first streams that make the first inputs of other kinds."""
         made = []
         for stream in self.streams[:12]:
             window = self.window(stream)
@@ -556,7 +556,7 @@ class Maker:
 
 
 class Runner:
-    """Runs calls in a folder of their own."""
+    """Runs calls in a temporary folder."""
 
     def __init__(self, folder: Path) -> None:
         self.folder, self.gives_text = folder, False
@@ -578,12 +578,12 @@ class Runner:
         return Outcome(ran.returncode, ran.stdout or b"", ran.stderr)
 
 
-# What is counted of a line on standard error.
+# The part of a line on standard error that is counted.
 TOLD = r"refused (?:(?:cue|script) \d+ )?\S+|damaged|usage|late|read fault \w+|write fault|$"
 
 
 class Tally:
-    """What was compared."""
+    """The results of the comparison."""
 
     def __init__(self) -> None:
         self.statuses: Counter[tuple[str, int | None]] = Counter()
@@ -597,7 +597,7 @@ class Tally:
         self.told[re.sub(r" \d+", "", known[0]) if known else "(another line)"] += 1
 
     def table(self) -> str:
-        """The calls of each command and each status, and how often each line was told."""
+        """The number of calls of each command and each status, and how often each line was printed."""
         statuses = sorted({status for _, status in self.statuses}, key=lambda status: (status is None, status))
         rows = [["command", *[str(status) for status in statuses], "all"]]
         for command in COMMANDS:
@@ -611,13 +611,13 @@ class Tally:
 
 
 def first_difference(old: bytes, new: bytes) -> str:
-    """Where two outputs begin to differ."""
+    """The place at which two outputs begin to differ."""
     place = next((k for k, (a, b) in enumerate(zip(old, new)) if a != b), min(len(old), len(new)))
     return f"byte {place} of {len(old)} and {len(new)}"
 
 
 def difference(old: Outcome, new: Outcome) -> str:
-    """What differs, in one line."""
+    """The difference, in one line."""
     parts = []
     if old.status != new.status:
         parts.append(f"status {old.status} and {new.status}")
@@ -629,13 +629,13 @@ def difference(old: Outcome, new: Outcome) -> str:
 
 
 def shown(call: Call, folder: Path) -> str:
-    """The command line that shows a call, in the folder of its inputs."""
+    """The command line of a call in the folder of its inputs."""
     words = [shlex.quote(word) if isinstance(word, str) else f"$'{repr(word)[2:-1]}'" for word in call.words]
     return f"cd {folder}; PROGRAM {' '.join(words)} <first{' >/dev/full' if call.full else ''}"
 
 
 class Comparison:
-    """Two programs, run side by side."""
+    """Two programs, run in parallel."""
 
     def __init__(self, old: Path, new: Path, seed: int, folder: Path) -> None:
         self.old, self.new = old, new
@@ -645,7 +645,7 @@ class Comparison:
         self.differences = 0
 
     def report(self, call: Call, what: str) -> None:
-        """Keeps the inputs of a call that shows a difference, and tells it."""
+        """Keeps the inputs of a call that shows a difference, and reports it."""
         kept = Path(tempfile.mkdtemp(prefix="compare-programs-"))
         for name in ("first", "second"):
             shutil.copy(self.runner.folder / name, kept / name)

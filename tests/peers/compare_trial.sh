@@ -1,8 +1,7 @@
 #!/bin/sh
-# Compares the lines of `ribjasper trial` for several seeds with those that tests/peers/reckon_trial.py works
-# out by other means, and its counts with those of `gen`, `author`, `scratch` and `check` one after the
-# other. A script with no picture, and lines in which one number is another, have to be noticed. Not part
-# of the gate; skipped where python3 is missing.
+# Compares the lines of `ribjasper trial` for several seeds with those that tests/peers/reckon_trial.py computes
+# independently, and its counts with those of `gen`, `author`, `scratch` and `check` one after another. A script without a
+# picture, and lines with one other number, must be detected. Not part of the gate; skipped if python3 is missing.
 set -e
 cd "$(dirname "$0")/../.."
 command -v python3 >/dev/null || { echo "no python3: skipped"; exit 0; }
@@ -23,9 +22,9 @@ done
 
 printf 'FILE "trial" WAVE\nTRACK 01 AUDIO\nINDEX 01 00:00:00\n' >"$work/sheet"
 bin/ribjasper gen --seed 42 --pictures 1 >"$work/script"
-# The script of this seed, worked out by hand from the rule of the generator.
+# The script of this seed, computed by hand from the rule of the generator.
 printf 'rect 119 28 113 72 4\nrect 144 29 36 6 2\nrect 267 100 12 42 0\nshow 00:10:50 00:10:70\n' >"$work/pictures"
-# Whether the pictures of a script are these: same_pictures SCRIPT
+# same_pictures SCRIPT: whether the pictures of a script are these
 same_pictures() { sed 1,16d "$1" | cmp -s - "$work/pictures"; }
 same_pictures "$work/script" || { echo "the script of seed 42 differs"; exit 1; }
 if same_pictures /dev/null; then

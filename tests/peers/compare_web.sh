@@ -1,8 +1,8 @@
 #!/bin/sh
-# What lib/web does beside the program: both modules in Node (tests/peers/test_web.mjs), sixty screens in WebKit's engine
+# Compares lib/web with the program: both modules in Node (tests/peers/test_web.mjs), sixty screens in the engine of WebKit
 # (test_webkit.mjs), the npm package (test_npm.mjs), parts of the page in Node (test_zip.mjs, test_detect.mjs, test_one_page.py),
-# and the page in Chromium (test_page.mjs). Skipped if one of the tools, or what `make` and `make web` build, is missing. With the argument `measure` the modules are also
-# measured, beside a plain player in JavaScript.
+# and the page in Chromium (test_page.mjs). Skipped if a tool, or something that `make` and `make web` build, is missing.
+# With the argument `measure` the modules are also measured, beside a plain player in JavaScript.
 set -e
 cd "$(dirname "$0")/../.."
 top=$PWD
@@ -12,7 +12,7 @@ command -v node >/dev/null || { echo "compare_web: skipped, there is no node"; e
 work=$(mktemp -d)
 trap 'rm -rf "$work"' EXIT
 
-# runs FLAG MODULE: Node can compile the module.
+# runs FLAG MODULE: whether Node can compile the module.
 runs() { node $1 -e 'new WebAssembly.Module(require("fs").readFileSync(process.argv[1]))' "$2" 2>/dev/null; }
 
 # 64-bit memories need a flag before Node 24, and older ones refuse them. Every Node has 32-bit memories.
@@ -38,7 +38,7 @@ mkdir "$work/zips"
 node tests/peers/test_zip.mjs "$work/zips"
 tests/peers/test_one_page.py
 
-# A stream, the same scratched, and thirty screens of each.
+# A stream, the same stream scratched, and thirty screens of each.
 lead_in=300
 cp examples/hello.cue examples/hello.script "$work"
 streams="$work/streams"
@@ -88,7 +88,7 @@ if ! node $flag -e 'process.exit(typeof WebSocket === "undefined" ? 1 : 0)' 2>/d
     echo "compare_web: the page is skipped, this node has no WebSocket"
     exit 0
 fi
-# The page plays in real time. On a busy machine it may fail, so it has a second try.
+# The page plays in real time. On a busy machine it may fail, so it is tried twice.
 page() { node $flag tests/peers/test_page.mjs "$chromium" "$top/bin/ribjasper" lib/web/index.html "$1"; }
 if ! page "$work/page"; then
     echo "compare_web: the page failed and is tried once more"

@@ -1,6 +1,5 @@
-"""The field of 64 elements, as those tools and examples reckon with it that use no line of the program: polynomials over
-two elements modulo x^6 + x + 1. An element is a number below 64, and its bit k is the coefficient of x^k; x is also
-called alpha."""
+"""The field of 64 elements, for tools and examples that use no code of the program: polynomials over two elements
+modulo x^6 + x + 1. An element is a number below 64, and its bit k is the coefficient of x^k; x is also called alpha."""
 
 
 def times(a: int, b: int) -> int:
@@ -15,7 +14,7 @@ def times(a: int, b: int) -> int:
 
 
 def powers() -> list[int]:
-    """The powers of x from 0 to 62: all elements but 0."""
+    """The powers of x from 0 to 62: all elements except 0."""
     found = [1]
     while len(found) < 63:
         found.append(times(found[-1], 2))

@@ -1,15 +1,15 @@
 #!/usr/bin/env python3
 """Writes the CD-TEXT packs of a lead-in, each once: lead_in_packs.py <STREAM >PACKS.
 
-A block of the raw stream has 96 bytes, whose low six bits are symbols. In the lead-in 24 symbols, which are not spread,
-are the eighteen bytes of a pack, most significant bit first. The packs come over and over, numbered from 0 in their
-third bytes, so the first is met again where all of them have been. Every later slot has to hold what the cycle says."""
+A block of the raw stream has 96 bytes, whose low six bits are symbols. In the lead-in, 24 symbols (not spread) are the
+eighteen bytes of a pack, with the most significant bit first. The packs repeat, with numbers from 0 in their third
+bytes, so the first one comes again after all of them. Every later slot must contain the pack that is due."""
 import sys
 from typing import BinaryIO, Iterator
 
 
 def slots_of(stream: BinaryIO) -> Iterator[bytes]:
-    """What each 24 symbols of a stream hold."""
+    """The 18 bytes in each 24 symbols of a stream."""
     while symbols := stream.read(24):
         bits = 0
         for symbol in symbols:

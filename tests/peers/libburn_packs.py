@@ -1,7 +1,7 @@
 #!/usr/bin/env python3
-"""Writes the CD-TEXT packs that libburn, the library of cdrskin, makes of a cue sheet: libburn_packs.py SHEET >PACKS.
+"""Writes the CD-TEXT packs that libburn, the library of cdrskin, makes from a cue sheet: libburn_packs.py SHEET >PACKS.
 
-The audio file that the sheet names has to be there. Needs libburn.so.4; nothing is burnt and no drive is asked for."""
+The audio file of the sheet must exist. Needs libburn.so.4; nothing is burnt, and no drive is opened."""
 import argparse
 import ctypes
 import sys

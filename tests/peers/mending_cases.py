@@ -1,12 +1,12 @@
 #!/usr/bin/env python3
-"""Tries the rule of mending on random readings whose truth is known: mending_cases.py [--cases N] [--seed N] [--desk]
+"""Tries the rule of mending on random readings of known streams: mending_cases.py [--cases N] [--seed N] [--desk]
 
-The rule is written here a second time, with numpy, and no line is shared with the desk or the library. Each case is a
-stream of some blocks with busy and idle stretches, and two to five readings of it with damage of several kinds. With
---desk the readings are files of several forms that the desk's command mends, and what it writes and reports has to be what
-the rule says; of cases with blocks or R-W of another place or disc it counts why a reading is better than the result. Ends
-with 1 where a perfect reading loses a word that no graphics pack contradicts, where the result has
-fewer correct words than the best reading, or where a reported number is not true."""
+The rule is written here a second time, with numpy; no code is shared with the desk or the library. Each case is a
+stream of some blocks with busy and idle stretches, and two to five readings of it with several kinds of damage. With
+--desk, the readings are files of several forms that the command of the desk mends; its output and report must be those
+of the rule. For cases with blocks or channels R to W of another place or disc, it counts why a reading is better than
+the result. The exit status is 1 if a perfect reading loses a word that no graphics pack contradicts, if the result has
+fewer correct words than the best reading, or if a reported number is not true."""
 import argparse
 import binascii
 import contextlib
@@ -38,15 +38,15 @@ Array = Any
 
 AGREED, NONE = 254, 255
 KNOWN = (1, 2, 6, 20, 24, 28, 30, 31, 38)
-# Modes and items that discs carry: line graphics, graphics, extended graphics, MIDI.
+# The modes and items that discs use: line graphics, graphics, extended graphics, MIDI.
 USED = (8, 9, 10, 24)
 SILENT, LOST, NEAR = 0, 1, 2
-# What the desk says of files that tell nothing of their form.
+# The message of the desk about files whose form is unknown.
 NO_DUMP = "no known form fits", "all bytes are zeros"
 
 
 def tables() -> tuple[Array, Array, Array]:
-    """The sums that each symbol adds, all sums of errors of one or two symbols in order, and those errors."""
+    """The sums of each symbol at each place, the sorted sums of all errors of one or two symbols, and these errors."""
     entries = np.zeros((24, 64), np.int64)
     for place, symbol in itertools.product(range(24), range(64)):
         sums = [times(power(j * (23 - place)), symbol) for j in range(4)]
@@ -223,7 +223,7 @@ def reading_of(chance: random.Random, truth: Truth) -> Reading:
 
 @dataclass
 class Heard:
-    """What a reading gives for each word."""
+    """What a reading has at each word."""
 
     word: Array
     kind: Array
@@ -276,14 +276,15 @@ class Result:
 
 
 def graphics_of(own: Heard) -> Array:
-    """The words at which a reading gives graphics."""
+    """The words at which a reading has graphics."""
     known = (own.pack[:, 0] == 9) & np.isin(own.pack[:, 1], KNOWN)
     clean = (own.doubts == 0) & ~is_idle(own.pack)
     return (own.kind == NEAR) & (known | clean)
 
 
 def drops(own: Heard, graphics: Array) -> Array:
-    """At which words an idle pack of the reading counts for nothing: in the same run of silence it misses graphics."""
+    """The words at which an idle pack of the reading does not count: it misses graphics in the same run of quiet
+    words."""
     idle = (own.kind == NEAR) & is_idle(own.pack)
     quiet = idle | (own.kind == SILENT)
     misses = idle & graphics
@@ -339,13 +340,13 @@ def choose(words: Sequence[Array], kinds: Array, packs: Array, doubts: Array) ->
 
 
 def alone(own: Heard) -> Array:
-    """The packs of a reading by itself."""
+    """The packs of one reading."""
     return np.where((own.kind == NEAR)[:, None], own.pack, 0)
 
 
 def arranged(chance: random.Random, stream: Array, has_q: bool) -> tuple[bytes, str]:
-    """A reading as a file: raw or planar, whole; or, where Q tells the place, without its beginning or end, or with its two
-    halves exchanged."""
+    """A reading as a file: raw or planar, whole; or, if Q gives its place, without its beginning or end, or with its
+    two halves exchanged."""
     blocks, told = len(stream) // 96, "whole"
     if has_q and blocks >= 150:
         kind = chance.choice(("whole", "whole", "later", "shorter", "halves exchanged"))
@@ -363,7 +364,7 @@ def arranged(chance: random.Random, stream: Array, has_q: bool) -> tuple[bytes, 
 
 
 def seen(content: bytes, told: str, truth: Truth) -> Array:
-    """The same file as blocks side by side with those of the truth, zeros where it has none."""
+    """The same file as blocks aligned with those of the truth, with zeros where it has none."""
     blocks = len(truth.stream) // 96
     if told.endswith("planar"):
         bits = np.unpackbits(np.frombuffer(content, np.uint8).reshape(-1, 8, 12), axis=2)
@@ -384,7 +385,7 @@ def seen(content: bytes, told: str, truth: Truth) -> Array:
 
 
 class Told(NamedTuple):
-    """What a call of the desk came to."""
+    """The result of a call of the desk."""
 
     status: int
     packs: Array
@@ -393,7 +394,7 @@ class Told(NamedTuple):
 
 
 def of_desk(folder: pathlib.Path, contents: Sequence[bytes]) -> Told:
-    """The packs of files, by the command."""
+    """The packs of some files, from the command."""
     names = []
     for number, content in enumerate(contents):
         path = folder / f"{number}.dump"
@@ -409,8 +410,8 @@ def of_desk(folder: pathlib.Path, contents: Sequence[bytes]) -> Told:
 
 
 def perfect_losses(heard: Sequence[Heard], result: Array, truth: Truth) -> tuple[int, int, int]:
-    """How many readings are perfect, how many of them do not come out whole, and in how many of these no graphics pack of
-    another reading contradicts a word that is lost."""
+    """The number of perfect readings; how many of them lost a word; and how many of these lost a word that no graphics
+    pack of another reading contradicts."""
     perfect = broken = unexplained = 0
     for own in heard:
         if not (own.word == truth.words).all():
@@ -427,7 +428,7 @@ def perfect_losses(heard: Sequence[Heard], result: Array, truth: Truth) -> tuple
 
 
 def lost_of(heard: Sequence[Heard], result: Result) -> list[int]:
-    """Of each reading the error-free words that count and did not come out."""
+    """For each reading, the number of error-free words that count and are not in the result."""
     found = []
     for own, dropped in zip(heard, result.dropped):
         differs = (result.packs != own.pack).any(axis=1) | (result.sources == NONE)
@@ -436,7 +437,7 @@ def lost_of(heard: Sequence[Heard], result: Result) -> list[int]:
 
 
 def reason(heard: Sequence[Heard], best: int, result: Result, n: int) -> str:
-    """Why a word that the best reading has right is not what came out, by the rule."""
+    """Why the result lacks a word that the best reading has right, by the rule."""
     own, source = heard[best], result.sources[n]
     if own.kind[n] != NEAR:
         return "the best reading has no codeword, and its zeros are right"
@@ -460,9 +461,9 @@ def compare_elsewhere(
     result: Result,
     truth: Truth,
 ) -> None:
-    """Counts, of cases with blocks or R-W of another place or disc, those in which the best reading is better, and why."""
+    """Counts the cases with blocks or R-W of another place or disc in which the best reading is better, and why."""
     if told.status not in (0, 1) or len(told.packs) != len(truth.words):
-        # The output is shorter if blocks at an end are left out, because no frame and no word says where they belong.
+        # The output is shorter if blocks at an end are left out, because no frame and no word shows their place.
         is_reported = "blocks are left out" in told.lines
         totals["elsewhere: reported blocks left out" if is_reported else "elsewhere: other length"] += 1
         return
@@ -495,7 +496,7 @@ def case(chance: random.Random, totals: Counter[str], show: bool, folder: Option
     elsewhere = any(word in done for it in names for done in it for word in ("foreign", "shifted", "stale"))
     if folder:
         has_q = not any("no Q" in done or "bad Q" in done for it in names for done in it) and not elsewhere
-        # The first is whole, so that all of the truth is there.
+        # The first one is whole, so it contains all of the truth.
         told = [
             has_q and number > 0 and (it.reshape(-1, 96) & 0x40).any(axis=1).mean() > 0.5
             for number, it in enumerate(streams)
@@ -548,7 +549,7 @@ def case(chance: random.Random, totals: Counter[str], show: bool, folder: Option
 def check_numbers(
     totals: Counter[str], show: bool, names: list[list[str]], told: Told, heard: Sequence[Heard], result: Result
 ) -> None:
-    """Compares what the command reports with the rule."""
+    """Compares the report of the command with the rule."""
     counts = [[int(cell) for cell in row[1:]] for row in told.rows[1:]]
     none = int((result.sources == NONE).sum())
     wanted = [

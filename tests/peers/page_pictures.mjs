@@ -1,5 +1,5 @@
-// Takes the pictures of pages in docs: web.png, the player of lib/web with a damaged stream, and look.png, the page of `look` with the
-// duet of examples.
+// Takes the pictures of pages in docs: web.png, the player of lib/web with a damaged stream, and look.png, the page of `look`
+// with the duet of examples.
 //
 //     node --experimental-websocket tests/peers/page_pictures.mjs CHROMIUM FOLDER
 //
@@ -23,14 +23,14 @@ function run(program, ...words) {
     return stdout;
 }
 
-// Numbers that look random and are the same each time.
+// Pseudo-random numbers, the same each time.
 let state = 1;
 function chance(most) {
     state = (Math.imul(state, 1_103_515_245) + 12_345) >>> 0;
     return (state >>> 8) % most;
 }
 
-/** The stream of the examples with single wrong symbols, and with a scratch that no word survives. */
+/** The stream of the examples with single wrong symbols, and with a scratch in which every word is lost. */
 function damaged() {
     const examples = ["hello.cue", "hello.script"].map((name) => join(TOP, "examples", name));
     const words = ["author", "--lead-in", `${LEAD_IN}`, "--length", "00:22:00", "--", ...examples];
@@ -44,7 +44,7 @@ function damaged() {
     return stream;
 }
 
-/** Silence as a WAV file, of so many seconds. */
+/** Silence of this length as a WAV file. */
 function silence(seconds) {
     const samples = 4 * RATE * seconds, head = Buffer.alloc(44);
     head.write("RIFF", 0);

@@ -1,14 +1,14 @@
 #!/usr/bin/env python3
-"""Tries where `mend` puts the pieces of readings, on random files whose truth is known: placing_cases.py [--cases N]
+"""Tries where `mend` places the pieces of readings, on random files of known discs: placing_cases.py [--cases N]
 [--seed N] [--only N] [--show] [--stream]
 
-Each case is a disc and two to five files of it, in five forms: with damage of R to W; with good, partly bad, nearly no and
-no Q; with stale runs of 3 to 400 blocks; with missing and repeated pieces; some of another disc. For each block of a file
-the case knows where the drive stood and which block of the disc the content is of. The command runs as an archivist runs
-it, without --force. The case counts: perfect readings that lost a word that no graphics pack contradicts, results with
-fewer correct words than the best reading, reported numbers that are not true, wrong words with exit status 0 that the
-rule does not have where all blocks are in their place, and refusals. No line is shared with the desk or the library. Ends
-with 1 where one of the first four is not 0."""
+Each case is a disc and two to five files of it, in five forms: with damage of R to W; with good, partly bad, nearly no
+or no Q; with stale runs of 3 to 400 blocks; with missing and repeated pieces; some of another disc. For each block of a
+file, the case knows where the drive was and which block of the disc the content is. The command runs without --force,
+as for an archivist. The case counts perfect readings that lost a word that no graphics pack contradicts; results with
+fewer correct words than the best reading; reported numbers that are not true; wrong words with exit status 0 that the
+rule would not have if all blocks were in their places; and refusals. No code is shared with the desk or the library.
+The exit status is 1 if one of the first four counts is not 0."""
 import argparse
 import binascii
 import contextlib
@@ -37,7 +37,7 @@ STALE_LENGTHS = (3, 5, 12, 20, 60, 100, 200, 400)
 
 @dataclass
 class File:
-    """A file: its blocks, where the drive stood at each, and the block of the disc that each is of; -1 for none."""
+    """A file: its blocks, the place of the drive at each, and the block of the disc that each is, or -1."""
 
     blocks: Array
     home: Array
@@ -61,7 +61,7 @@ def bad_q(chance: random.Random, blocks: Array, which: Array) -> None:
 
 
 def change_q(chance: random.Random, out: File) -> str:
-    """Damages channel Q of a file; returns how."""
+    """Damages channel Q of a file, and returns how."""
     count = len(out.blocks)
     kind = chance.choices(
         ("good", "bad in a part", "bad nearly everywhere", "none", "none in a part"), (40, 15, 15, 20, 10)
@@ -85,7 +85,7 @@ def change_q(chance: random.Random, out: File) -> str:
 
 
 def add_stale(chance: random.Random, truth: Truth, out: File, q: str) -> None:
-    """Runs of blocks of another moment, with good frames of that moment, or partly bad ones."""
+    """Runs of blocks from another time, with good or partly bad frames of that time."""
     count = len(out.blocks)
     disc = truth.stream.reshape(-1, BLOCK)
     for _ in range(chance.choice((1, 1, 1, 2, 3, 4))):
@@ -102,7 +102,7 @@ def add_stale(chance: random.Random, truth: Truth, out: File, q: str) -> None:
 
 
 def arrange(chance: random.Random, out: File, q: str, start: int) -> None:
-    """The pieces that the file has, in its order."""
+    """Arranges the pieces of the file in their order."""
     count = len(out.blocks)
     kind = chance.choices(
         ("whole", "later", "shorter", "exchanged", "repeated", "missing", "lead-in"), (55, 8, 8, 3, 8, 8, 10)
@@ -174,11 +174,11 @@ def as_file(blocks: Array, form: str, seed: int) -> bytes:
     return content
 
 
-# ---- Where blocks belong.
+# ---- The places of blocks.
 
 
 def layers(blocks: Array, places: Array, count: int) -> list[Array]:
-    """Streams of the disc with each block in its place; where a place has two blocks, more than one stream."""
+    """Streams of the disc with each block at its place; several streams if a place has several blocks."""
     found: list[Array] = []
     taken: list[Array] = []
     for block, place in zip(blocks, places):
@@ -194,13 +194,13 @@ def layers(blocks: Array, places: Array, count: int) -> list[Array]:
 
 
 def ideal_layers(it: File, count: int) -> list[Array]:
-    """The blocks of a file where they belong: those that are of the place where the drive stood first."""
+    """The blocks of a file at their places: first those that the drive read at the right place."""
     at_home = it.home == it.origin
     order = np.concatenate((np.flatnonzero(at_home), np.flatnonzero(~at_home)))
     return layers(it.blocks[order], it.origin[order], count)
 
 
-# ---- What the command did.
+# ---- The result of the command.
 
 
 class Ran(NamedTuple):
@@ -233,7 +233,7 @@ def run_command(folder: pathlib.Path, contents: Sequence[bytes], name: str, word
 
 
 def packs_of(stream: bytes, name: str) -> Array:
-    """The packs of an output: of a stream those of its words that are codewords."""
+    """The packs of an output; for a stream, the packs of its words that are codewords."""
     if name.endswith(".cdg"):
         return np.frombuffer(stream, np.uint8).reshape(-1, WORD)
     own = rule.hear(np.frombuffer(stream, np.uint8))
@@ -249,7 +249,7 @@ class Case(NamedTuple):
 
 
 def offset_of(case: Case) -> Optional[int]:
-    """The block of the disc that the output begins with, as the command says; none where it does not say so."""
+    """The block of the disc at which the output begins, as the command says; None if it does not say so."""
     found = re.search(r"(?:pack|block) (\d+) of \S+ is of the absolute time (\d+):(\d+):(\d+)", case.ran.lines)
     if not found:
         return None
@@ -258,7 +258,8 @@ def offset_of(case: Case) -> Optional[int]:
 
 
 def aligned(case: Case, offset: int) -> tuple[Array, Array]:
-    """The output's packs at the words of the disc, and which words it has; wrong packs outside are a further word."""
+    """The packs of the output at the words of the disc, and which words it has; wrong packs outside count as one more
+    word."""
     words = len(case.truth.words)
     packs, has = np.zeros((words, WORD), np.uint8), np.zeros(words, bool)
     at = np.arange(len(case.packs)) + 4 * offset
@@ -268,14 +269,14 @@ def aligned(case: Case, offset: int) -> tuple[Array, Array]:
 
 
 def correct_words(packs: Array, has: Array, truth: Truth) -> Array:
-    """The words that are right. Where the output has none, as behind its end, a word is idle."""
+    """The correct words. Where the output has none, for example after its end, a word is idle."""
     right: Array = (packs == truth.words).all(axis=1)
     return right
 
 
 def is_time_true(case: Case, offset: int) -> bool:
-    """Whether most packs of the output that are not idle are those of the disc at the time that the command says, or at
-    least more than at another time."""
+    """Whether most packs of the output that are not idle are the packs of the disc at the time that the command says,
+    or at least more than at another time."""
     packs, has = aligned(case, offset)
     busy = packs.any(axis=1)
     outside = int(case.packs.any(axis=1).sum()) - int(busy.sum())
@@ -284,7 +285,7 @@ def is_time_true(case: Case, offset: int) -> bool:
 
 
 class Expected(NamedTuple):
-    """The rule's result where each block is in its place, and what each file is by itself."""
+    """The result of the rule with each block at its place, and the packs of each file alone."""
 
     result: Any
     heard: list[Heard]
@@ -353,7 +354,7 @@ def count_case(
 
 
 def guessed(case: Case) -> int:
-    """The offset at which most packs are right, where the command says none."""
+    """The offset at which most packs are correct, if the command gives none."""
     at = range(-400, 401)
     return max(at, key=lambda offset: (int(correct_words(*aligned(case, offset), case.truth).sum()), -abs(offset)))
 
@@ -404,7 +405,8 @@ def check_perfect(case: Case, right: Array, wanted: Expected, count: Any, totals
 
 
 def check_numbers(case: Case, wanted: Expected, offset: int, count: Any) -> None:
-    """Whether what is reported is true of the output, and, where it is what the rule gives, what the rule reports."""
+    """Checks that the report is true of the output, and equals the report of the rule if the output is that of the
+    rule."""
     ran = case.ran
     cells = [[int(cell) for cell in row[1:]] for row in ran.rows[1:]]
     found = re.search(r"(\d+) words have no codeword", ran.lines)

@@ -1,10 +1,9 @@
 #!/usr/bin/env python3
-"""Works out by other means what rows in crates/rows/data want: reckon_rows.py [--check]
+"""Computes expected values of rows in crates/rows/data independently: reckon_rows.py [--check]
 
-Prints a line for each reckoned value: the name of its row, the word of the row and the value. With
---check it looks for each in the files of rows, and ends with 1 where one is not there. Streams, packs,
-checks, scripts and scratches are made here from their written definitions (docs/FORMATS.md), without a
-line of the program."""
+Prints a line for each value: the name of its row, the word of the row and the value. With --check it searches each
+value in the files of rows, and the exit status is 1 if one is missing. Streams, packs, checks, scripts and scratches
+are made here from their written definitions (docs/FORMATS.md), without code of the program."""
 import argparse
 import hashlib
 import pathlib
@@ -16,7 +15,7 @@ from subcode import PLACES, check, words_of
 
 
 def solve(rows: list[list[int]]) -> list[int]:
-    """The solution of linear equations, each a list of coefficients and its right side."""
+    """The solution of linear equations, each of which is a list of coefficients and its right side."""
     size = len(rows)
     for column in range(size):
         pivot = next(k for k in range(column, size) if rows[k][column])
@@ -31,7 +30,7 @@ def solve(rows: list[list[int]]) -> list[int]:
 
 
 def parity(known: dict[int, int], size: int, count: int, unknown: list[int]) -> list[int]:
-    """The unknown symbols with which the first `count` sums of a word of this size are zero."""
+    """The unknown symbols for which the first `count` sums of a word of this size are zero."""
     rows = []
     for j in range(count):
         total = 0
@@ -42,7 +41,7 @@ def parity(known: dict[int, int], size: int, count: int, unknown: list[int]) -> 
 
 
 def seal(head: tuple[int, int], body: Sequence[int] = ()) -> bytes:
-    """The codeword of a head of two symbols and up to sixteen of content."""
+    """The codeword of a head of two symbols and of up to sixteen content symbols."""
     word = list(head) + [0, 0] + list(body) + [0] * (16 - len(body))
     word[2:4] = parity({0: word[0], 1: word[1]}, 4, 2, [2, 3])
     return bytes(word + parity(dict(enumerate(word)), 24, 4, [20, 21, 22, 23]))
@@ -71,7 +70,7 @@ def tile(instruction: int, first: int, second: int, row: int, column: int, lines
 
 
 def spread(packs: Sequence[bytes], slots: int) -> bytearray:
-    """The symbols of so many slots that carry packs."""
+    """The symbols of `slots` slots that carry packs."""
     symbols = bytearray(24 * slots)
     for n, pack in enumerate(packs):
         for place, symbol in zip(PLACES, pack):
@@ -106,12 +105,12 @@ def recording_code(text: str) -> bytes:
     return (bits << 2).to_bytes(4, "big") + digits(text[5:] + "0")
 
 
-# The strings of each type of pack: those of the album and of each track.
+# The strings of each type of pack: first the album, then each track.
 Strings = Sequence[tuple[int, list[bytes]]]
 
 
 class Track(NamedTuple):
-    """A track, whose index lines are pairs of a number and a time of the file."""
+    """A track; its index lines are pairs of a number and a time in the file."""
 
     number: int
     indices: list[tuple[int, int]]
@@ -140,11 +139,11 @@ class Disc:
         self.blocks = 150 + length + gaps
 
     def one(self, k: int) -> int:
-        """Where index 1 of a track stands."""
+        """The place of index 1 of a track."""
         return dict(self.starts[k])[1]
 
     def program_frame(self, n: int) -> tuple[bool, bytes]:
-        """Whether a block of the program is one of a pause, and its Q frame."""
+        """Whether a program block is in a pause, and its Q frame."""
         k = max(k for k, begin in enumerate(self.begins) if begin <= n)
         track, start = self.tracks[k], self.one(k)
         index = max([i for i, s in self.starts[k] if s <= n], default=0)
@@ -217,7 +216,7 @@ def block(paused: bool, q: bytes, symbols: Sequence[int]) -> bytes:
 
 
 def planar(q: bytes) -> str:
-    """A planar block with this frame, as rows spell it."""
+    """A planar block with this frame, as written in rows."""
     return f"12*00 {q.hex()} 72*00"
 
 
@@ -354,7 +353,7 @@ TEXTS = {
 }
 
 
-# One of each of the nine instructions.
+# One instruction of each of the nine kinds.
 ALL = [
     PACKS["preset-five"],
     PACKS["border-eleven"],
@@ -369,7 +368,7 @@ ALL = [
 
 
 def pressed(disc: Disc, packs: list[bytes]) -> bytes:
-    """The stream of a disc with the packs of a file, which begin with the first block of the audio."""
+    """The stream of a disc with the packs of a file, from the first block of the audio."""
     return disc.stream([IDLE] * 593 + packs)
 
 
@@ -381,7 +380,7 @@ def with_other_bits(pack: bytes) -> bytes:
 def checkpoint(
     program: int, bad: int = 0, slots: bytes = bytes(168), to_come: int = 0, lead_in: int = 0
 ) -> bytes:
-    """A checkpoint of a screen on which all is zero."""
+    """A checkpoint of a blank screen."""
     counts = b"".join(number.to_bytes(4, "big") for number in (to_come, lead_in, program, bad))
     content = b"CDGSAVE1" + counts + slots + bytes(64_800 + 3 + 32 + 16)
     return content + check(content)
@@ -440,7 +439,7 @@ def of_workloads() -> Iterator[Value]:
 
 
 def rows() -> dict[str, list[str]]:
-    """The lines of each row of the files."""
+    """The lines of each row in the files."""
     found: dict[str, list[str]] = {}
     for file in pathlib.Path(__file__).resolve().parents[2].glob("crates/rows/data/*.rows"):
         for stanza in file.read_text().split("\n\n"):

@@ -1,9 +1,9 @@
 #!/usr/bin/env python3
-"""Works out the nine lines of `ribjasper trial` by other means: reckon_trial.py SEED PICTURES
+"""Computes the nine lines of `ribjasper trial` independently: reckon_trial.py SEED PICTURES
 
-No stream is made here. The changes are counted tile by tile by the rank of the differences of their
-colours, over every start that a change may have, and the words that scratches touch by the places
-of their symbols alone. It shares no code with the program, so the two check each other."""
+No stream is made here. The changes are counted tile by tile, by the rank of the differences of their colours, for every
+start that a change may have; the words that scratches hit are counted from the places of their symbols. No code is
+shared with the program, so the two check each other."""
 import argparse
 import sys
 from typing import Iterable
@@ -12,7 +12,7 @@ from subcode import PLACES, words_of
 
 
 def rank(values: Iterable[int]) -> int:
-    """The number of independent ones among numbers, as lists of bits under exclusive or."""
+    """The number of independent numbers, as lists of bits under exclusive or."""
     basis: list[int] = []
     for value in values:
         for member in basis:
@@ -23,12 +23,12 @@ def rank(values: Iterable[int]) -> int:
 
 
 def planes(tile: list[int]) -> int:
-    """How many instructions set a tile, or combine it with what stands there."""
+    """The number of instructions that draw a tile, or combine it with the old tile."""
     return max(1, rank(colour ^ tile[0] for colour in set(tile)))
 
 
 def steps(old: list[int], new: list[int]) -> int:
-    """How many instructions make one tile of another."""
+    """The number of instructions that turn one tile into another."""
     if old == new:
         return 0
     return min(planes(new), planes([a ^ b for a, b in zip(old, new)]))
@@ -43,7 +43,7 @@ def tiles(window: list[list[int]]) -> list[list[int]]:
 
 
 def changes(seed: int, pictures: int) -> int:
-    """The instructions of all changes of the generated script."""
+    """The number of instructions in all changes of the generated script."""
     words = words_of(seed)
     window = [[0] * 288 for _ in range(192)]
     before: list[list[int]] | None = None
@@ -56,7 +56,7 @@ def changes(seed: int, pictures: int) -> int:
             for line in window[y : y + height]:
                 line[x : x + width] = [b // 256 % 16] * width
         now = tiles(window)
-        # A preset of any colour, with the border and both halves of the colours in front of the first picture.
+        # A clearing in any colour; before the first picture, also the border and both halves of the colours.
         settings = 4 if before is None else 1
         costs = [settings + sum(steps([colour] * 72, tile) for tile in now) for colour in range(16)]
         if before is not None:
@@ -67,7 +67,7 @@ def changes(seed: int, pictures: int) -> int:
 
 
 def touched(seed: int, blocks: int) -> list[int]:
-    """How many words have none, one, two .. symbols in the bursts of the seed."""
+    """The numbers of words with no, one, two .. symbols in the bursts of the seed."""
     symbols = 96 * blocks
     hit = bytearray(symbols)
     words = words_of(seed)

@@ -1,5 +1,6 @@
 #!/usr/bin/env python3
-"""Ends with 0 where two pixmaps of 300 by 216 pixels are equal in the window: x from 6 to 293, y from 12 to 203."""
+"""The exit status is 0 if two pixmaps of 300 by 216 pixels are equal in the window: x from 6 to 293, y from 12 to
+203."""
 import argparse
 import sys
 from pathlib import Path
@@ -8,7 +9,7 @@ HEADER = b"P6\n300 216\n255\n"
 
 
 def window(path: Path) -> list[bytes]:
-    """The lines of the window of a pixmap."""
+    """The rows of the window of a pixmap."""
     data = path.read_bytes()
     if not data.startswith(HEADER) or len(data) != len(HEADER) + 3 * 300 * 216:
         sys.exit(f"{path} is no pixmap of 300 by 216 pixels")

@@ -1,17 +1,17 @@
-"""What second implementations of the subcode share, without a line of the program: where the symbols of a pack stand, the
-remainder that checks frames and text packs, and the words of the generator."""
+"""What second implementations of the subcode share, without code of the program: the places of the symbols of a pack,
+the remainder that checks frames and text packs, and the words of the generator."""
 from typing import Iterator
 
-# Symbol i of a pack goes to position i, but for three pairs that are exchanged.
+# Symbol i of a pack is at position i, except for three pairs that are exchanged.
 EXCHANGED = {1: 18, 18: 1, 2: 5, 5: 2, 3: 23, 23: 3}
-# Where each symbol stands behind the first one of its pack's slot: position p comes p mod 8 slots later.
+# The place of each symbol, counted from the first slot of its pack: position p is sent p mod 8 slots later.
 PLACES = [24 * (position % 8) + position for position in (EXCHANGED.get(i, i) for i in range(24))]
 # x^16 + x^12 + x^5 + 1.
 POLYNOMIAL = 0x11021
 
 
 def remainder(value: int) -> int:
-    """The remainder of a number, whose bits are the coefficients, by the polynomial."""
+    """The remainder of a number, whose bits are coefficients, after division by the polynomial."""
     for place in range(value.bit_length() - 1, 15, -1):
         if value >> place & 1:
             value ^= POLYNOMIAL << (place - 16)
@@ -22,7 +22,7 @@ REMAINDERS = [remainder(byte << 16) for byte in range(256)]
 
 
 def check(content: bytes) -> bytes:
-    """The two bytes that check a content: its remainder, inverted."""
+    """The two bytes that check some bytes: their remainder, inverted."""
     rest = 0
     for byte in content:
         rest = (rest << 8 ^ REMAINDERS[rest >> 8 ^ byte]) & 0xFFFF

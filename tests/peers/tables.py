@@ -1,8 +1,8 @@
 #!/usr/bin/env python3
-"""Reckons the tables that stand as numbers in the sources, and says which differ.
+"""Computes the tables that the sources contain as numbers, and says which differ.
 
-The proofs show each table right by themselves; this is how they were made. `tables.py NAME` prints one table in the
-layout of its source, `tables.py` compares all of them with the sources.
+The proofs show that each table is right; this script shows how the tables were made. `tables.py NAME` prints one table
+in the layout of its source, `tables.py` compares all of them with the sources.
 """
 import argparse
 import pathlib
@@ -16,7 +16,7 @@ ROOT = pathlib.Path(__file__).resolve().parents[2]
 
 
 def sums(position: int, symbol: int) -> int:
-    """The six sums of the word with one symbol: four over all symbols, two over the first four, six bits each."""
+    """The six sums of a word with one symbol: four over all symbols, two over the first four, six bits each."""
     lanes = 0
     for j in range(4):
         lanes |= times(POWERS[j * (23 - position) % 63], symbol) << 6 * j
@@ -42,18 +42,18 @@ def lanes(byte: int) -> int:
 
 
 def line(bits: int) -> int:
-    """The six bits of a line of a tile, each in a byte of a number, that of the leftmost pixel in the lowest byte."""
+    """The six bits of a line of a tile, each in one byte of a number; the leftmost pixel is in the lowest byte."""
     return sum((bits >> 5 - k & 1) << 8 * k for k in range(6))
 
 
 def digits(byte: int) -> int:
-    """The number that a byte of two decimal digits is, or 255."""
+    """The number in a byte of two decimal digits, or 255."""
     high, low = divmod(byte, 16)
     return 10 * high + low if max(high, low) < 10 else 255
 
 
 def tables() -> dict[str, tuple[str, list[int]]]:
-    """Each table with the source in which it stands, and its numbers."""
+    """Each table with its source file and its numbers."""
     differences, logs = pairs()
     return {
         "SYNDROMES": ("rw_code/src/syndromes.rt", [sums(i, 1 << b) for i in range(24) for b in range(6)]),
@@ -69,7 +69,7 @@ def tables() -> dict[str, tuple[str, list[int]]]:
 
 
 def source_of(name: str, path: str) -> list[int]:
-    """The numbers of a table as they stand in its source."""
+    """The numbers of a table in its source."""
     text = (ROOT / "crates" / path).read_text()
     table = re.search(r"static " + name + r": [^=]*= \[(.*?)\n\];", text, re.S)
     return [int(number, 0) for number in re.findall(r"0x[0-9a-f]+|\d+", table[1] if table else "")]

@@ -1,5 +1,6 @@
-// What the page says a file is (examples/web/detect.mjs), and which files it plays together (items.mjs), in Node. The dumps and
-// their truth are those of the desk's tests (desk/tests/known_dumps.py), which share no line with the library, the desk or the page.
+// The form that the page detects for a file (examples/web/detect.mjs), and the files that it plays together (items.mjs), in
+// Node. The dumps and the expected results come from the tests of the desk (desk/tests/known_dumps.py), which share no code
+// with the library, the desk or the page.
 //
 //     node [--experimental-wasm-memory64] tests/peers/test_detect.mjs MODULE FOLDER
 //
@@ -18,7 +19,7 @@ import { zipOf } from "./zips.mjs";
 const TOP = join(dirname(fileURLToPath(import.meta.url)), "..", "..");
 const [MODULE, FOLDER] = process.argv.slice(2);
 
-/** Writes the known dumps, but for those with another order of bits or with a header whose length that of the file does not tell. */
+/** Writes the known dumps, except those with another order of bits, or with a header that the file length does not reveal. */
 const WRITE = `
 import json, sys
 sys.path.insert(0, sys.argv[1] + "/desk/tests")
@@ -44,7 +45,7 @@ async function compareDumps(ribjasper) {
         const blob = new Blob([readFileSync(join(FOLDER, file))]);
         const { found } = await formOf(ribjasper, blob);
         const said = called.toLowerCase().endsWith(".cdg") && found?.form.name === "cooked" ? "cdg" : found?.form.name;
-        // A file of packs with parity is both; its name decides on the page.
+        // A file of packs with parity fits both forms; its name decides on the page.
         if (said !== form && !(form === "cdg" && said === "cooked")) {
             wrong.push(`${name}: ${said} and not ${form}`);
             continue;
@@ -95,7 +96,7 @@ async function comparePairs() {
     ]) {
         assert.deepEqual(await itemsFor(...files), wanted, files.join(" "));
     }
-    // Those of a zip are in a folder of their own.
+    // The files of a zip are in their own folder.
     const zip = zipOf([{ name: "B.mp3", bytes: Buffer.alloc(9) }, { name: "A.cdg", bytes: Buffer.alloc(24) }, { name: "A.mp3", bytes: Buffer.alloc(9) },
         { name: "B.cdg", bytes: Buffer.alloc(24) }, { name: "__MACOSX/._x.cdg", bytes: Buffer.alloc(24) }]);
     const { entries } = await entriesOf([{ path: "pairs.zip", file: new File([zip], "pairs.zip") }]);
@@ -104,7 +105,7 @@ async function comparePairs() {
     console.log("test_detect: pairs are made by their names");
 }
 
-/** The audio of sectors comes out as it stands in them, behind the header of a .wav file. */
+/** The audio of sectors is unchanged, behind the header of a .wav file. */
 async function compareSounds() {
     const [sectors, audio] = [9000, 2352];
     const samples = Buffer.from(Array.from({ length: audio * 50 }, (_, k) => (k * 7 + (k >> 8)) & 0xff));
@@ -133,7 +134,7 @@ async function compareSounds() {
     console.log("test_detect: the sound of images is that of their sectors");
 }
 
-/** Noise is no dump, whatever its length; sheets of noise say nothing. */
+/** Noise of any length is no dump; sheets of noise have no facts. */
 async function compareNoise(ribjasper) {
     let seed = 3;
     const noise = (size, mask = 255) => Uint8Array.from({ length: size }, () => {

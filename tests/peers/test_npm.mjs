@@ -1,9 +1,9 @@
-// The npm package in Node, in a bundle and in a page: its picture has to be that of the program.
+// The npm package in Node, in a bundle and in a page: its picture must equal that of the program.
 //
 //     node tests/peers/test_npm.mjs FOLDER PICTURE [ESBUILD] [CHROMIUM]
 //
 // FOLDER is one in which the package was installed, with a stream named `stream`. PICTURE is the program's pixmap after all of
-// its blocks. The tools' names may be empty; what lacks its tool is skipped.
+// its blocks. The names of the tools may be empty; tests whose tool is missing are skipped.
 import assert from "node:assert/strict";
 import { execFileSync } from "node:child_process";
 import { createHash } from "node:crypto";
@@ -15,7 +15,7 @@ const [FOLDER, PICTURE, ESBUILD, CHROMIUM] = process.argv.slice(2);
 const HEAD = "P6\n300 216\n255\n".length;
 const wanted = createHash("sha256").update(readFileSync(PICTURE).subarray(HEAD)).digest("hex");
 
-/** The text of a function that gives the SHA-256 of the picture, for Node, bundles and pages. */
+/** The text of a function that computes the SHA-256 of the picture, for Node, bundles and pages. */
 const DIGEST = `
 async function digest(ribjasper, stream) {
     const player = ribjasper.player();
@@ -37,7 +37,7 @@ assert.equal(run(["in_node.mjs"]), wanted, "the picture in Node");
 console.log("test_npm: the picture in Node is that of the program");
 
 if (ESBUILD) {
-    // For pages, and run in Node, which has what it uses of one; without the bytes it has to be bundled too.
+    // For pages, and run in Node, which has all functions that it needs; without the bytes it must be bundled too.
     writeFileSync(join(FOLDER, "bundled.mjs"), `import { load } from "ribjasper";
 import bytes from "ribjasper/ribjasper.wasm";
 ${DIGEST}

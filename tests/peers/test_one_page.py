@@ -1,5 +1,5 @@
 #!/usr/bin/env python3
-"""tools/build/one_page.py: scripts come into a page in the order of their imports, and what would break the page is refused."""
+"""tools/build/one_page.py: scripts are put into a page in the order of their imports, and harmful ones are refused."""
 from __future__ import annotations
 
 import subprocess

@@ -1,5 +1,5 @@
-// The page of examples/web in Chromium, without a window: files are opened, played and sought, and the page has to show the
-// screens of the program. Each control, the keyboard, touch and what is read aloud are tried too.
+// The page of examples/web in Chromium without a window: files are opened, played and sought, and the page must show the
+// screens of the program. Each control, the keyboard, touch and the texts for screen readers are tried too.
 //
 //     node --experimental-websocket tests/peers/test_page.mjs CHROMIUM PROGRAM PAGE FOLDER
 //
@@ -23,7 +23,7 @@ const PACK = 24;
 const LEAST_CONTRAST = 4.5;
 const LEAST_GRAPHICS_CONTRAST = 3;
 
-/** What the program writes. It may say that there is damage, and nothing else. */
+/** The output of the program. It may report damage, and nothing else. */
 function run(input, ...words) {
     const { status, stdout, stderr } = spawnSync(PROGRAM, words, { input, cwd: FOLDER, maxBuffer: 1 << 30 });
     assert.ok(status === 0 || status === 1, `${words.join(" ")}: ${stderr}`);
@@ -32,7 +32,7 @@ function run(input, ...words) {
 
 const byId = (id) => `document.getElementById("${id}")`;
 
-/** The numbers of red, green and blue that the canvas shows. */
+/** Red, green and blue of the canvas. */
 async function canvas(browser) {
     const encoded = await browser.value(`(() => {
         const { data } = ${byId("screen")}.getContext("2d").getImageData(0, 0, 300, 216);
@@ -58,7 +58,7 @@ async function expect(browser, stream, seconds, what, leadIn = 0) {
     assert.equal(Buffer.compare(await canvas(browser), screenOf(stream, seconds, leadIn)), 0, `${what} at ${seconds} seconds`);
 }
 
-/** A tone, as a .wav file of 8,000 samples a second. */
+/** A tone as a .wav file with 8,000 samples per second. */
 function tone(seconds) {
     const samples = Buffer.from(Array.from({ length: 8000 * seconds }, (_, i) => 128 + 40 * Math.sin(i / 6)));
     const header = Buffer.from("RIFF....WAVEfmt ....................data....");
@@ -74,7 +74,7 @@ function tone(seconds) {
     return Buffer.concat([header.subarray(0, 44), samples]);
 }
 
-/** An image of the units of a stream, behind audio. */
+/** An image: the units of a stream behind audio. */
 function imageOf(subcode) {
     const sectors = Buffer.alloc((subcode.length / BLOCK) * SECTOR, 0x5a);
     for (let b = 0; b < subcode.length / BLOCK; b += 1) {
@@ -96,7 +96,7 @@ function files() {
     const disc = (leadIn) => run("", "author", "--lead-in", `${leadIn}`, "--length", "00:22:00", "--", "hello.cue", "hello.script");
     const whole = disc(0);
     const scratched = Buffer.from(run(whole, "scratch", "--lead-in", "0", "--seed", "3"));
-    // A scratch too long for any correction.
+    // A scratch that is too long for any correction.
     scratched.fill(0x2a, BLOCK * 900, BLOCK * 960);
     const packs = run(whole, "convert", "--lead-in", "0");
     put({
@@ -131,7 +131,7 @@ async function tryStreams(browser, { whole, scratched, packs }) {
     put({ "planar.img": imageOf(run(whole, "planar")) });
     assert.match(await browser.open("planar.img"), /2,448 bytes, their subcode planar/);
     await expect(browser, whole, 7.14, "an image with planar subcode");
-    // Of a stream a pack is shown seven packs after its own: block 751 shows the first 2,997.
+    // In a stream, a pack is shown seven packs later: block 751 shows the first 2,997.
     await browser.open("song.cdg");
     await browser.value("page.jump(2997.5 / 300)");
     assert.equal(Buffer.compare(await canvas(browser), screenOf(whole, 751 / 75)), 0, "a .cdg file");
@@ -160,7 +160,7 @@ async function tryLeadIns(browser, { disc }) {
             }
         }
     }
-    // The lead-in can be set, and the page then reads the stream as the program does.
+    // The user can set the lead-in, and the page then reads the stream as the program does.
     await browser.open("hello.raw");
     assert.equal(await browser.value(`${byId("lead-in")}.value`), "300");
     const set = async (leadIn) => {
@@ -198,7 +198,7 @@ async function tryStreamsWithoutQ(browser, { whole }) {
 async function trySound(browser, { packs }) {
     put({ "short.cdg": packs.subarray(0, PACK * 900), "short.wav": tone(20), "long.cdg": packs.subarray(0, PACK * 6000), "long.wav": tone(2) });
     const state = (expression) => browser.value(expression);
-    // Sound of twenty seconds over graphics of three: the last picture stands until the sound ends.
+    // Sound of twenty seconds with graphics of three: the last picture remains until the sound ends.
     await browser.open("short.cdg", "short.wav");
     await browser.until("page.seconds === 20");
     assert.equal(await state(`${byId("time")}.textContent`), "00:00 / 00:20");
@@ -212,11 +212,11 @@ async function trySound(browser, { packs }) {
     assert.equal(await state(`${byId("play")}.textContent`), "Play");
     assert.ok(Math.abs(await state("page.now") - 20) < 0.2);
     assert.equal(Buffer.compare(await canvas(browser), last), 0, "the last picture stands");
-    // At the end, playing starts anew.
+    // At the end, playing starts from the beginning.
     await browser.click("play");
     await browser.until("page.isPlaying && page.now > 0.1 && page.now < 15");
     await browser.click("play");
-    // Sound of two seconds over graphics of twenty: the graphics go on by the clock.
+    // Sound of two seconds with graphics of twenty: the graphics continue by the clock.
     await browser.open("long.cdg", "long.wav");
     await browser.until("page.seconds === 20 && document.querySelector('audio').duration === 2");
     await browser.value("page.jump(1.2)");
@@ -230,7 +230,7 @@ async function trySound(browser, { packs }) {
     await browser.value("page.jump(19)");
     await browser.until("!page.isPlaying");
     assert.deepEqual(await state(`[${byId("play")}.textContent, page.now]`), ["Play", 20]);
-    // Back into the sound, and behind its end.
+    // Back into the sound, and beyond its end.
     await browser.value("page.jump(1)");
     await browser.click("play");
     await browser.until("page.now > 1.2");
@@ -239,7 +239,7 @@ async function trySound(browser, { packs }) {
     await browser.value("page.jump(8)");
     await browser.until("page.now > 8.1 && document.querySelector('audio').paused");
     await browser.click("play");
-    // A sound that cannot be played is said to be so, and the graphics play without it.
+    // A sound that cannot be played is reported, and the graphics play without it.
     put({ "long.wav": Buffer.alloc(5000, 7) });
     await browser.open("long.cdg", "long.wav");
     await browser.until(`${byId("told")}.textContent.includes("cannot play the sound")`);
@@ -267,10 +267,10 @@ async function tryControls(browser) {
         const [after, to] = await browser.value("[page.now, performance.now()]");
         return (1000 * (after - before)) / (to - from);
     };
-    // On a busy machine sound stops now and then.
+    // On a busy machine, sound stops from time to time.
     const found = await rate();
     assert.ok(found > 1.4 && found < 2.4, `at speed 2 the sound plays at ${found}`);
-    // The next file keeps speed and volume, without a sound too.
+    // The next file keeps speed and volume, also without a sound.
     await browser.open("song.cdg");
     await browser.until("page.isPlaying && page.now > 0.1");
     assert.ok(Math.abs(await rate() - 2) < 0.2);
@@ -282,7 +282,7 @@ async function tryControls(browser) {
     await browser.until("document.fullscreenElement?.id === 'player'");
     await browser.until(`${byId("full")}.textContent === "Leave full screen"`);
     await browser.photograph("full");
-    // While it plays, the controls hide, and any movement brings them back.
+    // While the page plays, the controls are hidden, and any movement shows them again.
     const isSeen = (id) => browser.value(`${byId(id)}.checkVisibility()`);
     await browser.click("play");
     await browser.until(`!${byId("play")}.checkVisibility()`);
@@ -309,7 +309,7 @@ async function tryTransparency(browser, { whole }) {
     })()`);
     assert.ok((await opacity()).every((it) => it === 255));
     await browser.value(`${byId("background")}.value = "border"; ${byId("background")}.dispatchEvent(new Event("change"))`);
-    // The border is the frame of 6 columns and 12 rows; pixels of its colour are clear, and no others.
+    // The border is the frame of 6 columns and 12 rows; pixels of its colour are transparent, and no others.
     const scratched = readFileSync(join(FOLDER, "song.raw"));
     const picture = screenOf(scratched, 7.14);
     const colour = (k) => picture.readUIntBE(3 * k, 3);
@@ -338,13 +338,13 @@ async function tryTransparency(browser, { whole }) {
     return "backgrounds are clear by the border's colour or by the levels of the disc";
 }
 
-// ---- keys, touch and what is read aloud
+// ---- keys, touch and texts for screen readers
 
 async function tryKeys(browser) {
     await browser.open("song.cdg");
     await browser.send("Page.setInterceptFileChooserDialog", { enabled: true });
     await browser.value("document.activeElement.blur(); scrollTo(0, 0)");
-    // Each control is reached by the key Tab, and Enter on the button opens the dialog for files.
+    // The key Tab reaches each control, and Enter on the button opens the dialog for files.
     const reached = [];
     for (let k = 0; k < 40 && !(reached.length > 15 && reached.at(-1) === "open"); k += 1) {
         await browser.press("Tab");
@@ -375,7 +375,7 @@ async function tryKeys(browser) {
     await browser.until("page.isPlaying");
     await browser.press(" ", "Space", " ");
     await browser.until("!page.isPlaying");
-    // A key that a control needs is left to it.
+    // A key that a control needs is left to this control.
     await browser.value(`${byId("speed")}.focus(); page.jump(0)`);
     await browser.press("ArrowRight");
     assert.equal(await browser.value("page.now"), 0);
@@ -547,7 +547,7 @@ async function tryZips(browser, { packs }) {
     for (const [name, options] of [["wide", { wide: true }], ["front", { front: Buffer.from("MZ and more") }], ["both", { wide: true, front: Buffer.alloc(99) }]]) {
         assert.match(await open(`${name}.zip`, [song], options), /^song\.cdg: a \.cdg file/, name);
     }
-    // A pair is one by its name, whatever stands between.
+    // A pair is found by its name, whatever is between its files.
     const pairs = [{ name: "B.wav", bytes: wav(7) }, { name: "A.cdg", bytes: one }, { name: "A.wav", bytes: wav(5) }, { name: "B.cdg", bytes: other }];
     assert.match(await open("pairs.zip", pairs), /^A\.cdg: .*sound: A\.wav/);
     await browser.until("page.seconds === 5");
@@ -555,11 +555,11 @@ async function tryZips(browser, { packs }) {
     await browser.until("page.seconds === 7");
     assert.match(await browser.value(`${byId("told")}.textContent`), /^B\.cdg: .*sound: B\.wav/);
     assert.equal(await browser.value("document.querySelector('#list [aria-current]').textContent"), "pairs.zip/B.cdg with B.wav");
-    // What macOS adds is no song.
+    // Files that macOS adds are no songs.
     const mac = [{ name: "__MACOSX/._x.cdg", bytes: Buffer.alloc(300, 5) }, { name: "x.cdg", bytes: one }];
     assert.match(await open("mac.zip", mac), /^x\.cdg: /);
     assert.equal(await browser.value(`${byId("files")}.hidden`), true);
-    // One file that cannot be read does not keep the others out.
+    // One unreadable file does not prevent the others.
     const mixed = [{ name: "a.cdg", bytes: one, method: 14 }, { name: "b.cdg", bytes: one, flags: 1 }, { name: "c.cdg", bytes: other }];
     assert.match(await open("mixed.zip", mixed), /^c\.cdg: /);
     assert.deepEqual(await browser.value("[...document.querySelectorAll('#list li')].map((it) => it.textContent)"),
@@ -570,7 +570,7 @@ async function tryZips(browser, { packs }) {
     }
     put({ "cut.zip": zipOf([song]).subarray(0, 400) });
     assert.match(await browser.open("cut.zip"), /no directory/);
-    // A sound that is broken leaves the graphics.
+    // With a broken sound, the graphics still play.
     assert.match(await open("sound.zip", [song, { name: "song.mp3", bytes: wav(1), crc: 3 }]), /^song\.cdg: .*no sound: song\.mp3 is damaged/);
     return "zips are read, pairs are made by names, and what is wrong is named";
 }
@@ -609,11 +609,11 @@ async function tryOpus(browser) {
     return "zips with opus, mp3 and flac are played";
 }
 
-/** Images whose sound stands in sectors: CloneCD's three files, a .bin with its sheet, and sectors of 2,448 bytes. */
+/** Images with sound in their sectors: CloneCD's three files, a .bin with its sheet, and sectors of 2,448 bytes. */
 async function tryImages(browser, { disc, whole }) {
     const stream = disc(75);
     const blocks = stream.length / BLOCK;
-    // A tone in each second one, so that the sound can be told from silence.
+    // A tone in every second sector, so that the sound differs from silence.
     const audio = Buffer.alloc(AUDIO * blocks);
     for (let at = 0; at < audio.length; at += 4) {
         audio.writeInt16LE(Math.round(8000 * Math.sin(at / 100)), at);
@@ -624,7 +624,7 @@ async function tryImages(browser, { disc, whole }) {
         assert.match(told, /^disc\.sub: subcode in the planar form.*lead-in: 75 blocks, by Q; sound: that of disc\.img/);
         await browser.until(`Math.abs(document.querySelector("audio").duration - ${blocks / 75}) < 0.01`);
         await expect(browser, stream, 7.14, "CloneCD's files", 75);
-        // The sound begins with the lead-in, a second before the picture's time.
+        // The sound begins with the lead-in, a second before the time of the picture.
         assert.ok(Math.abs(await browser.value("document.querySelector('audio').currentTime - page.now") - 1) < 0.05);
     }
     put({ "data.sub": run(stream, "planar"), "data.img": audio, "data.ccd": "[Entry 0]\r\nPoint=0x01\r\nControl=0x04\r\n" });
@@ -660,7 +660,7 @@ async function tryOpening(browser, { packs }) {
         assert.match(await browser.open("second.cdg"), /^second\.cdg/);
         assert.equal(await browser.value(`${byId("file")}.value`), "");
     }
-    // Of two files that are opened at once the later one stays.
+    // If two files are opened at once, the later one is shown.
     await browser.value(`(() => {
         const file = (name, size) => ({ path: name, file: new File([new Uint8Array(size)], name) });
         page.open([file("one.cdg", 24000000)]);
@@ -669,7 +669,7 @@ async function tryOpening(browser, { packs }) {
     await browser.until(`${byId("told")}.textContent.startsWith("two.cdg")`);
     await wait(500);
     assert.ok(await browser.value(`${byId("told")}.textContent.startsWith("two.cdg")`));
-    // Files that are dropped together are listed, those of folders too.
+    // Dropped files are listed, including those in folders.
     await browser.value(`(() => {
         const transfer = new DataTransfer();
         for (const name of ["x.cdg", "y.cdg", "z.txt"]) {
@@ -682,12 +682,12 @@ async function tryOpening(browser, { packs }) {
     return "files are opened during playback, twice, at once and together";
 }
 
-/** The screen of packs, by way of a stream of packs, four a block. */
+/** The screen of packs, through a stream with four packs per block. */
 function screenOfPacks(packs) {
     return run(packs, "screen", "--lead-in", "0", "--form", "cooked", "--at", moment(packs.length / BLOCK / 75)).subarray(15);
 }
 
-/** Dumps of 40 MB: memory stays, and the page goes on while it saves one. */
+/** Dumps of 40 MB: memory does not grow, and the page stays responsive while it saves one. */
 async function tryBigDumps(browser, { whole }) {
     const big = Buffer.concat(Array.from({ length: Math.ceil(41_000_000 / whole.length) }, () => whole));
     put({ "big.raw": big });
@@ -702,7 +702,7 @@ async function tryBigDumps(browser, { whole }) {
         await browser.value("page.jump(5000)");
         sizes.push(await browser.value("page.ribjasper.memoryBytes"));
     }
-    // Rooms are split and joined anew at first.
+    // Free memory is split and joined at first.
     assert.ok(sizes.at(-1) === sizes.at(-2) && sizes.at(-1) - sizes[0] < 1_000_000, `the memory of the module: ${sizes}`);
     mkdirSync(join(FOLDER, "saved"));
     await browser.send("Browser.setDownloadBehavior", { behavior: "allow", downloadPath: join(FOLDER, "saved"), eventsEnabled: true });
@@ -732,7 +732,7 @@ async function tryBigDumps(browser, { whole }) {
         `the page stands still for at most ${Math.round(opening)} ms while it opens one and ${Math.round(gap)} ms while it saves it`;
 }
 
-/** From here on the longest time between two pictures of the page is kept, and which shares its progress shows. */
+/** From here on, records the longest time between two pictures of the page, and the shares that its progress shows. */
 function watch(browser) {
     return browser.value(`(() => {
         globalThis.shares = new Set();
@@ -754,7 +754,7 @@ function watch(browser) {
     })()`);
 }
 
-/** The page asks nobody for anything but itself and what it made. */
+/** The page requests only itself and its own objects. */
 function expectNoRequests(browser) {
     const asked = browser.events.filter((it) => it.method === "Network.requestWillBeSent").map((it) => it.params.request.url);
     assert.deepEqual(asked.filter((it) => !/^(file|blob|data):/.test(it)), []);

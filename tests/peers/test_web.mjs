@@ -1,4 +1,4 @@
-// The module for web pages beside the program: screens, packs, surveys and checkpoints have to be the same bytes.
+// The module for web pages compared with the program: screens, packs, surveys and checkpoints must have the same bytes.
 //
 //     node [--experimental-wasm-memory64] tests/peers/test_web.mjs PROGRAM MODULE FOLDER [measure]
 //
@@ -28,13 +28,13 @@ function time(blocks) {
     return `${two(Math.floor(blocks / 4500))}:${two(Math.floor(blocks / 75) % 60)}:${two(blocks % 75)}`;
 }
 
-/** The bytes of the picture that the program gives, without its header. */
+/** The bytes of the picture from the program, without its header. */
 function screenOf(stream, at, ...options) {
     const pixmap = run(stream, "screen", ...options, "--at", time(at));
     return pixmap.subarray("P6\n300 216\n255\n".length);
 }
 
-/** Red, green and blue of a picture of four bytes a pixel, whose fourth is 255. */
+/** Red, green and blue of a picture with four bytes per pixel, of which the fourth is 255. */
 function withoutAlpha(picture) {
     const bytes = Buffer.alloc((picture.length / 4) * 3);
     for (let pixel = 0; pixel < picture.length / 4; pixel += 1) {
@@ -48,7 +48,7 @@ function same(one, other, what) {
     assert.equal(Buffer.compare(Buffer.from(one), Buffer.from(other)), 0, what);
 }
 
-/** A stream of the tour's disc, the same scratched, and a generated one whose pictures change all the time. */
+/** The stream of the tour's disc, the same stream scratched, and a generated one whose pictures change all the time. */
 function streams() {
     for (const name of ["hello.cue", "hello.script"]) {
         writeFileSync(join(FOLDER, name), readFileSync(join(TOP, "examples", name)));
@@ -97,7 +97,7 @@ function comparePacks(ribjasper, stream) {
     fed.feedAll(stream.subarray(0, 5 * BLOCK_BYTES));
     assert.deepEqual([fed.counts().form, fed.counts().blocks, fed.counts().words], ["packs", 5, 12]);
     fed.close();
-    // What changes nothing is what `thin` makes idle.
+    // The packs that change nothing are those that `thin` makes idle.
     const thin = run(wanted, "thin");
     const player = ribjasper.player();
     for (let at = 0; at < packs.length; at += PACK_BYTES) {
@@ -106,7 +106,7 @@ function comparePacks(ribjasper, stream) {
         same(kept, thin.subarray(at, at + PACK_BYTES), `the pack at ${at} of thin`);
         player.draw(pack);
     }
-    // Drawn as packs the file shows what the stream does.
+    // Drawn as packs, the file shows the same as the stream.
     const program = stream.length / BLOCK_BYTES - LEAD_IN;
     const drawn = ribjasper.player();
     assert.equal(drawn.drawAll(packs), packs.length / PACK_BYTES);
@@ -138,7 +138,7 @@ function compareForms(ribjasper, stream) {
         ribjasper.convert(stream, { leadIn: LEAD_IN }).packs, "the packs of planar blocks and of raw ones");
     assert.deepEqual(ribjasper.survey(planar, { form: "planar", leadIn: LEAD_IN }).sums(),
         ribjasper.survey(stream, { leadIn: LEAD_IN }).sums());
-    // An ArrayBuffer, a Buffer and an array of clamped bytes are bytes too.
+    // An ArrayBuffer, a Buffer and an array of clamped bytes count as bytes too.
     const buffer = Uint8Array.from(stream).buffer;
     for (const bytes of [buffer, new Uint8ClampedArray(buffer), Buffer.from(buffer)]) {
         third.begin({ leadIn: LEAD_IN });
@@ -149,7 +149,7 @@ function compareForms(ribjasper, stream) {
     console.log("test_web: sectors, blocks and the planar form give the same");
 }
 
-/** In parts `convert` and `survey` give what they give at once, whatever the form and the lead-in. */
+/** In parts, `convert` and `survey` give the same as at once, whatever the form and the lead-in. */
 function compareParts(ribjasper, stream) {
     const long = Buffer.concat([stream, stream, stream.subarray(0, BLOCK_BYTES * 77)]);
     const sectors = Buffer.alloc((long.length / BLOCK_BYTES) * SECTOR_BYTES);
@@ -180,7 +180,7 @@ function compareParts(ribjasper, stream) {
     console.log("test_web: convert and survey give the same in parts, in four forms behind ten lead-ins");
 }
 
-/** A seeker shows at each place what a player shows that was fed from the beginning, however many marks it keeps. */
+/** At each place, a seeker shows the same as a player that was fed from the beginning, however many marks it keeps. */
 function compareSeeking(ribjasper, stream, packs) {
     const planar = run(stream, "planar");
     let seed = 11;
@@ -213,7 +213,7 @@ function compareSeeking(ribjasper, stream, packs) {
     console.log("test_web: 400 places that are sought show what feeding from the beginning shows");
 }
 
-/** The changed rectangle is the least one, opacity is that of the levels, and a picture stays as it was given. */
+/** The rectangle of changes is the smallest one, opacity comes from the levels, and a returned picture does not change. */
 function comparePictures(ribjasper, packs) {
     const player = ribjasper.player();
     const image = { data: new Uint8ClampedArray(4 * 300 * 216), width: 300, height: 216 };
@@ -226,7 +226,7 @@ function comparePictures(ribjasper, packs) {
         player.drawAll(packs.subarray(at, at + 7 * PACK_BYTES));
         const rect = player.update(image);
         same(image.data, player.picture(), "an updated image");
-        // What changed, by another way: the columns and rows of all bytes that differ.
+        // The change, computed in another way: the columns and rows of all bytes that differ.
         const after = new Uint32Array(Uint8Array.from(image.data).buffer);
         const differs = Array.from({ length: 300 * 216 }, (_, k) => k).filter((k) => before[k] !== after[k]);
         const [across, down] = [differs.map((k) => k % 300), differs.map((k) => Math.floor(k / 300))];
@@ -252,7 +252,7 @@ function comparePictures(ribjasper, packs) {
         });
         same(withoutOpacity(picture), withoutOpacity(opaquePicture(player)), "the colours of a clear picture");
     }
-    // The memory grows while the picture is held.
+    // The memory grows while the picture is in use.
     const kept = player.picture();
     const before = Uint8Array.from(kept);
     const more = Array.from({ length: 40 }, () => ribjasper.player());
@@ -270,7 +270,7 @@ function withoutOpacity(picture) {
     return picture.filter((_, k) => k % 4 !== 3);
 }
 
-/** Sectors are sought too, marks are used again, a closed seeker refuses, and it leaves no room behind. */
+/** Sectors are sought too, marks are used again, a closed seeker refuses, and it frees all its memory. */
 function compareSeekers(ribjasper, stream, packs) {
     const sectors = new Uint8Array((stream.length / BLOCK_BYTES) * SECTOR_BYTES).fill(0x77);
     for (let b = 0; b < stream.length / BLOCK_BYTES; b += 1) {
@@ -282,7 +282,7 @@ function compareSeekers(ribjasper, stream, packs) {
         same(one.player.screen(), other.player.screen(), `the screen of sectors at ${to}`);
         assert.deepEqual(one.player.counts(), other.player.counts());
     }
-    // What a seeker was given may change afterwards: it holds a copy.
+    // The data given to a seeker may change afterwards: it holds a copy.
     const bytes = Uint8Array.from(packs);
     const seeker = ribjasper.seeker(bytes, { form: "cdg" });
     bytes.fill(0);
@@ -304,7 +304,7 @@ function compareSeekers(ribjasper, stream, packs) {
     console.log("test_web: sectors are sought as raw blocks, a seeker holds a copy, and it gives its memory back");
 }
 
-/** What may have changed holds every pixel that did, and what is fed or drawn is the same as without asking. */
+/** The reported change contains every changed pixel, and feeding or drawing has the same effect as without the report. */
 function compareChanges(ribjasper, stream, packs) {
     const planar = run(stream, "planar");
     const [one, other] = [ribjasper.player({ leadIn: LEAD_IN }), ribjasper.player({ leadIn: LEAD_IN })];
@@ -349,7 +349,7 @@ function compareChanges(ribjasper, stream, packs) {
     assert.deepEqual(one.drawChanges(both), { count: 2, ...nothing, rectangle: { x: 30, y: 36, width: 30, height: 60 } });
     assert.deepEqual(one.drawChanges(pack(9, 30)), { count: 1, ...nothing, colours: true });
     assert.deepEqual(one.drawChanges(pack(9, 28)), { count: 1, ...nothing, levels: true });
-    // More packs than the module takes at a time, of which the first and the last draw.
+    // More packs than the module reads at a time; the first and the last one draw.
     const many = new Uint8Array(PACK_BYTES * 90_000);
     many.set(tiles[0], 0);
     many.set(tiles[1], many.length - PACK_BYTES);
@@ -358,7 +358,7 @@ function compareChanges(ribjasper, stream, packs) {
     console.log(`test_web: ${told} changes that are told hold each pixel that changed`);
 }
 
-/** Parity is counted and written: packs of the program keep theirs, and get it back after it was taken off. */
+/** Parity is counted and written: packs of the program keep theirs, and get it back after it was removed. */
 function compareParity(ribjasper, packs) {
     const [count, upper] = [packs.length / PACK_BYTES, packs.map((byte, k) => byte | (64 * (k % 4)))];
     const idle = Array.from({ length: count }, (_, k) => packs.subarray(PACK_BYTES * k, PACK_BYTES * (k + 1)))
@@ -375,7 +375,7 @@ function compareParity(ribjasper, packs) {
     many.set(bare, many.length - bare.length);
     assert.deepEqual(ribjasper.parity(many), { idle: 100_000 - count + idle, valid: 0, invalid: count - idle });
     same(ribjasper.seal(many).subarray(many.length - bare.length), packs, "the last of many packs");
-    // As blocks of packs they draw nothing without parity, and with it what `drawAll` draws.
+    // As blocks of packs they draw nothing without parity, and with parity the same as `drawAll`.
     const blocks = bare.subarray(0, bare.length - (bare.length % BLOCK_BYTES));
     const [player, drawn] = [ribjasper.player({ form: "packs" }), ribjasper.player()];
     const black = drawn.screen();
@@ -391,7 +391,7 @@ function compareParity(ribjasper, packs) {
     console.log(`test_web: the parity of ${count} packs is counted and written`);
 }
 
-/** What is closed or done is used again: memory does not grow with what comes and goes. */
+/** Memory of closed objects is used again: it does not grow with the number of objects over time. */
 async function compareMemory(module) {
     const ribjasper = await load(module);
     const dump = new Uint8Array(BLOCK_BYTES * 100_000);
@@ -401,7 +401,7 @@ async function compareMemory(module) {
         const players = Array.from({ length: 20 }, () => ribjasper.player());
         ribjasper.convert(dump.subarray(0, BLOCK_BYTES * 5000));
         ribjasper.mendReadings([dump, dump]);
-        // Each second one first, so that rooms are split and joined.
+        // Every second one first, so that free memory is split and joined.
         players.filter((_, k) => k % 2 === round % 2).forEach((it) => it.close());
         ribjasper.survey(dump.subarray(0, BLOCK_BYTES * 1000 * (round + 1)));
         players.forEach((it) => it.close());
@@ -411,7 +411,7 @@ async function compareMemory(module) {
     console.log(`test_web: memory stays at ${sizes[1]} bytes, whatever comes and goes`);
 }
 
-/** What is no argument is refused by an error that names it, and nothing changes. */
+/** A wrong argument throws an error that names it, and nothing changes. */
 async function refuseArguments(ribjasper, module) {
     const player = ribjasper.player();
     const other = (await load(module)).player();
@@ -504,12 +504,12 @@ async function refuseArguments(ribjasper, module) {
     console.log(`test_web: ${tries} wrong arguments are refused by an error that names them`);
 }
 
-/** What `convert` writes of a clean reading comes out beside a scratched one and one that has no R to W. */
+/** Mended with a scratched reading and one without R to W, a clean reading gives the output of `convert`. */
 function compareMending(ribjasper, whole, scratched) {
     const wanted = run(whole, "convert", "--lead-in", `${LEAD_IN}`);
     const words = wanted.length / PACK_BYTES;
     const empty = whole.map((byte) => byte & 0xc0);
-    // A scratch of ten blocks, which is too long to be corrected.
+    // A scratch of ten blocks is too long to be corrected.
     const worn = Buffer.from(scratched);
     worn.subarray(BLOCK_BYTES * (LEAD_IN + 500), BLOCK_BYTES * (LEAD_IN + 510)).forEach((byte, k, part) => {
         part[k] = byte ^ (1 + (k * 7) % 62);
@@ -524,7 +524,7 @@ function compareMending(ribjasper, whole, scratched) {
         assert.equal(named.reduce((sum, count) => sum + count), words);
         assert.equal(mended.dropped.length, readings.length);
     }
-    // A reading alone is what it gives, zeros where it gives nothing.
+    // A single reading gives its own packs, and zeros for words without a codeword.
     const alone = ribjasper.mendReadings([worn], { leadIn: LEAD_IN });
     const { packs, bad } = ribjasper.convert(worn, { leadIn: LEAD_IN });
     same(alone.packs, packs, "the packs of a worn reading");
@@ -540,7 +540,7 @@ function compareMending(ribjasper, whole, scratched) {
     console.log("test_web: readings are mended, whole beside scratched ones and empty ones, and what is no readings is refused");
 }
 
-/** The text packs of a lead-in: as many are right as the command `text` counts, and each has its six bits in order. */
+/** The text packs of a lead-in: as many have right checks as the command `text` counts, and the order of bits is right. */
 function compareTexts(ribjasper) {
     writeFileSync(join(FOLDER, "titled.cue"), 'TITLE "An album"\nFILE "a" WAVE\nTRACK 01 AUDIO\nTITLE "One"\nINDEX 01 00:00:00\n');
     writeFileSync(join(FOLDER, "empty.script"), "");
@@ -592,7 +592,7 @@ function compareCheckpoints(ribjasper, stream) {
     console.log("test_web: checkpoints are those of the program, and what is no checkpoint is refused");
 }
 
-/** The types name each value, class and method of the library, and no other. */
+/** The types name each value, class and method of the library, and no others. */
 function compareTypes() {
     const types = readFileSync(join(TOP, "web", "ribjasper.d.mts"), "utf8");
     const named = [...types.matchAll(/^export (?:const|function|class) (\w+)/gm)].map((it) => it[1]);
@@ -610,7 +610,7 @@ function compareTypes() {
     console.log("test_web: the types name what there is");
 }
 
-/** A player writes its own numbers alone: what lies behind each is as it was. */
+/** A player writes only its own memory: the bytes behind it do not change. */
 async function watchMemory(module) {
     const { exports } = await WebAssembly.instantiate(module, {});
     const start = exports.memory.buffer.byteLength;
@@ -638,7 +638,7 @@ async function watchMemory(module) {
     console.log("test_web: 200,000 random packs and blocks stay within the 65,080 bytes of a player");
 }
 
-/** The least of several runs of each function, in turn, in milliseconds. */
+/** The least time of several runs of each function, in turn, in milliseconds. */
 function least(rounds, ...works) {
     const best = works.map(() => Infinity);
     for (let round = 0; round < rounds; round += 1) {
@@ -677,7 +677,7 @@ function measure(ribjasper, tour) {
         rows.push([`a block of ${name}, all in one call`, (1e6 * all) / blocks, (1e6 * plain) / blocks]);
         rows.push([`a block of ${name}, a call for each`, (1e6 * each) / blocks, (1e6 * plain) / blocks]);
     }
-    // Packs: those of the tour, idle ones, of which a file mostly consists, and tiles that are set (6) or combined (38).
+    // Packs: those of the tour, idle ones, which most of a file is, and tiles that are set (6) or combined (38).
     const tiles = (code) => Uint8Array.from({ length: PACK_BYTES * 36000 }, (_, k) => {
         const [byte, place] = [random[k], k % PACK_BYTES];
         return [9, code, 0, 0, byte % 16, byte % 16, byte % 18, byte % 50][place] ?? byte % 64;

@@ -1,5 +1,5 @@
-// The calls of the web module on many blocks and packs, and its seeking, pixels and parity, by their plain exports: each gives what single calls
-// give, and what is refused changes nothing. Run by tests/peers/compare_web.sh, or:
+// The calls of the web module with many blocks and packs, and its seeking, pixels and parity, through their plain exports: each
+// has the same effect as single calls, and a refused call changes nothing. Run by tests/peers/compare_web.sh, or:
 //     node tests/peers/test_web_calls.mjs lib/web/ribjasper.wasm
 import { readFile } from "node:fs/promises";
 
@@ -26,12 +26,12 @@ function grow(pages) {
     try {
         memory.grow(BigInt(pages));
     } catch {
-        // Before 2024 the number was no BigInt.
+        // Before 2024, the number was not a BigInt.
         memory.grow(pages);
     }
 }
 
-/** An address with so many bytes behind it, which eight divides. */
+/** An address that is a multiple of eight, with this many bytes behind it. */
 function room(bytes) {
     const at = end;
     end += 8 * Math.ceil(bytes / 8);
@@ -72,7 +72,7 @@ for (let n = 0; n < PACKS; n++) {
     pack[7] %= 50;
 }
 
-/** What the player shows, as a picture. */
+/** The picture of the player. */
 function picture(player) {
     call("picture", ...big(player, shown));
     return bytes(shown, 4 * 300 * 216).slice();
@@ -82,13 +82,13 @@ function begin(player, form = 0, leadIn = 0) {
     check(call("begin", BigInt(player), form, leadIn) === 0, `begin ${form} ${leadIn}`);
 }
 
-/** The rectangle that a call wrote: left, top, right, bottom, colours, levels. */
+/** The change that a call wrote: left, top, right, bottom, colours, levels. */
 function rectangle() {
     const numbers = new DataView(memory.buffer, change, 20);
     return [0, 4, 8, 12].map((at) => numbers.getUint32(at, true)).concat([numbers.getUint8(16), numbers.getUint8(17)]);
 }
 
-/** Whether two pictures differ in the rectangle at most. */
+/** Whether two pictures differ at most in the rectangle. */
 function isKept(before, after, [left, top, right, bottom, colours]) {
     if (colours) {
         return true;
@@ -142,7 +142,7 @@ function compareMany() {
     }
 }
 
-/** Planar blocks, as many as both lists hold. */
+/** Planar blocks, as many as both lists have. */
 function comparePlanar() {
     bytes(work, BLOCK * BLOCKS).fill(0xee);
     call("blocks_from_planar", ...big(stream, 3, work, BLOCKS));
@@ -185,7 +185,7 @@ function compareSeeks() {
     }
 }
 
-/** Pixels with the opacity of levels, or opaque, write their own bytes only. */
+/** Pixels, with the opacity of levels or opaque, change only their own bytes. */
 function comparePixels() {
     const size = 4 * 300 * 216;
     const guarded = room(size + 16);
@@ -207,7 +207,7 @@ function comparePixels() {
     }
 }
 
-/** Packs are counted and sealed, as many as are named and no byte behind them. */
+/** Packs are counted and sealed, as many as requested, and no byte behind them changes. */
 function compareParity() {
     const [counts, sealed, fixed] = [room(40), room(PACK * PACKS + 8), room(PACK)];
     const parity = (at, count) => {
@@ -220,7 +220,7 @@ function compareParity() {
     bytes(sealed, PACK * PACKS).set(bytes(packs, PACK * PACKS));
     bytes(sealed + PACK * PACKS, 8).fill(0xa7);
     const idle = Array.from({ length: PACKS }, (_, n) => bytes(packs + PACK * n, PACK).every((byte) => byte % 64 === 0)).filter(Boolean).length;
-    // Packs of noise are codewords once in 2 ** 36 times.
+    // A pack of noise is a codeword once in 2 ** 36 times.
     check(parity(packs, PACKS).join() === [idle, 0, PACKS - idle].join(), "packs of noise have no parity");
     call("packs_seal", ...big(sealed, PACKS - 1));
     check(Buffer.compare(bytes(sealed + PACK * (PACKS - 1), PACK), bytes(packs + PACK * (PACKS - 1), PACK)) === 0, "the pack behind those that are sealed");
@@ -230,14 +230,14 @@ function compareParity() {
     for (let n = 0; n < PACKS; n++) {
         const [before, after] = [bytes(packs + PACK * n, PACK), bytes(sealed + PACK * n, PACK)];
         check([0, 1, 4, 5, 6, 7, 8, 9, 10, 11, 12, 13, 14, 15, 16, 17, 18, 19].every((k) => after[k] === before[k] % 64), `symbols of pack ${n}`);
-        // A wrong symbol is corrected to it: the parity is that of the code.
+        // A wrong symbol becomes part of the codeword: the parity is computed for it.
         bytes(fixed, PACK).set(after);
         bytes(fixed, PACK)[n % PACK] ^= 1 + (n % 63);
         check(parity(fixed, 1)[2] === 1, `pack ${n} with a wrong symbol`);
     }
 }
 
-/** What is refused changes neither the player nor the marks. */
+/** A refused call changes neither the player nor the marks. */
 function compareRefusals() {
     const [kept, keptMarks] = [bytes(one, PLAYER).slice(), bytes(marks, MARK * MARKS).slice()];
     for (const [form, leadIn, to, every] of [[2, 0, 0, 1], [4294967295, 0, 0, 1], [0, 450001, 0, 1], [0, 0, BLOCKS + 1, 1], [0, 0, 0, 0]]) {

@@ -1,9 +1,10 @@
-// The module for web pages in WebKit's engine, beside the program: screens have to be the same bytes.
+// The module for web pages in the engine of WebKit, compared with the program: screens must have the same bytes.
 //
 //     jsc -m tests/peers/test_webkit.mjs -- MODULE FOLDER
 //
-// For each NAME of the file FOLDER/names: FOLDER/NAME is a stream, FOLDER/NAME.moments has the numbers of blocks after which the
-// screen is compared, the blocks of lead-in first, and FOLDER/NAME.screens the program's pictures, one behind the other.
+// For each NAME in the file FOLDER/names: FOLDER/NAME is a stream, FOLDER/NAME.moments has the number of lead-in blocks and
+// then the numbers of blocks after which the screen is compared, and FOLDER/NAME.screens the program's pictures, one after
+// another.
 import { BLOCK_BYTES, HEIGHT, WIDTH, load } from "../../web/ribjasper.mjs";
 
 /* global arguments, readFile, print */

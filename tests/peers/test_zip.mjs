@@ -1,5 +1,5 @@
-// The zip reader of the page (examples/web/zip.mjs), in Node: what Python's zipfile writes, what the format allows, and zips that
-// lie. No zip may do more than end with an error that says why.
+// The zip reader of the page (examples/web/zip.mjs), in Node: zips of Python's zipfile, everything that the format allows, and
+// false zips. The worst that a zip may cause is an error with a reason.
 //
 //     node tests/peers/test_zip.mjs FOLDER
 import assert from "node:assert/strict";
@@ -15,7 +15,7 @@ import { zipOf } from "./zips.mjs";
 const [FOLDER] = process.argv.slice(2);
 
 let seed = 5;
-/** A number below a bound, from a generator of the C standard. */
+/** A number below a bound, from the example generator of the C standard. */
 function chance(bound) {
     seed = (Math.imul(seed, 1103515245) + 12345) >>> 0;
     return (seed >>> 8) % bound;
@@ -61,7 +61,7 @@ async function honestZips() {
     assert.deepEqual(await Promise.all([zipOf(both), random(5000), Buffer.alloc(0)].map((it) => isZip(new Blob([it])))), [true, false, false]);
 }
 
-/** What Python writes is read, as files and as a stream with sizes behind the data. */
+/** Zips that Python writes are read, as files and as a stream with sizes behind the data. */
 async function zipsOfPython() {
     const script = `
 import sys, zipfile
@@ -111,7 +111,7 @@ async function lyingZips() {
     assert.equal((await files[1].blob()).size, song.bytes.length);
 }
 
-/** A thousand times as many bytes as are packed: a directory that says so is refused at once, one that lies as soon as it shows. */
+/** Files a thousand times as long as packed: a true directory is refused at once, a false one as soon as this shows. */
 async function bombs() {
     const packed = deflateRawSync(Buffer.alloc(2 ** 28));
     const name = "bomb.cdg";
@@ -122,13 +122,13 @@ async function bombs() {
     await expectRefused(zipOf([{ name, bytes: Buffer.alloc(0), packed, size: 2 ** 52 }], { wide: true }), /would unpack/, "a huge bomb");
     assert.ok(performance.now() - before < 60_000, "bombs are refused in time");
     assert.ok(process.memoryUsage().rss < 2 ** 30);
-    // As many files as one likes may share their bytes: the directory is bounded, and only what is played is unpacked.
+    // Any number of files may share their bytes: the directory is limited, and only what is played is unpacked.
     const many = Array.from({ length: 66_000 }, (_, k) => ({ name: `${k}`, bytes: Buffer.alloc(0), stored: true }));
     await expectRefused(zipOf(many.slice(0, 65_535), { wide: true }).subarray(0, 5000), /no directory/, "many files, cut off");
     await assert.rejects(zipFiles(new Blob([zipOf(many, { wide: true })])), /too long: 66000 files/);
 }
 
-/** Random changes of a zip: it is read as it was, or refused. */
+/** Random changes of a zip: its files are read unchanged, or refused. */
 async function spoiledZips() {
     const whole = { plain: zipOf([song, sound]), wide: zipOf([song, sound], { wide: true }) };
     let [same, refused] = [0, 0];

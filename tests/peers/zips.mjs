@@ -1,8 +1,8 @@
-// Zips for the tests of the page: honest ones, and ones that lie. They are built from the published description of the format
+// Zips for the tests of the page, true and false ones. They are built from the published description of the format
 // (APPNOTE.TXT), with the deflate and the CRC of Node.
 import { crc32 as crcOfZlib, deflateRawSync } from "node:zlib";
 
-/** CRC-32; that of Node where it has one. */
+/** CRC-32; that of Node if there is one. */
 export function crcOf(bytes) {
     if (crcOfZlib !== undefined) {
         return crcOfZlib(bytes);
@@ -31,7 +31,7 @@ function record(size, ...fields) {
 
 /**
  * A zip of entries `{ name, bytes, .. }`. `stored` leaves an entry unpacked; `method`, `flags`, `crc`, `size`, `packed`, `header`
- * and `comment` say what is not so. Of the zip, `front` and `back` are bytes around it, `wide` makes it a zip64.
+ * and `comment` are false values. For the zip, `front` and `back` are bytes around it, and `wide` makes it a zip64.
  */
 export function zipOf(entries, { front = Buffer.alloc(0), back = Buffer.alloc(0), comment = "", wide = false, absolute = false } = {}) {
     const [bodies, directory] = [[], []];

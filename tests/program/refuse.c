@@ -1,5 +1,5 @@
-/* Refuses one request for memory: the one whose number REFUSE names, counted from 0. Loaded before a
-   program by LD_PRELOAD; when the program ends, the file COUNT holds how many requests it made. */
+/* Refuses one request for memory: the one with the number in REFUSE, counted from 0. LD_PRELOAD loads it before a program;
+   when the program ends, it writes the number of its requests to the file in COUNT. */
 #define _GNU_SOURCE
 #include <dlfcn.h>
 #include <errno.h>

@@ -1,8 +1,8 @@
 #!/bin/sh
-# Runs bin/ribjasper with each of its requests for memory refused in turn, on some small inputs. Each run
-# has to end as it does with ample memory, or with 'no memory' (7) and nothing written. Two careless
-# programs, one that writes before it says so and one that fails in another way, have to be noticed. Not
-# part of the gate; it needs a C compiler for the small library that refuses.
+# Runs bin/ribjasper with each of its requests for memory refused in turn, on some small inputs. Each run must end as with
+# ample memory, or with 'no memory' (7) and without output. Two careless programs, one that writes before it reports this
+# and one that fails in another way, must be detected. Not part of the gate; it needs a C compiler for the small library
+# that refuses.
 set -e
 cd "$(dirname "$0")/../.."
 [ -x bin/ribjasper ] || tools/build/build.sh
@@ -23,7 +23,7 @@ bin/ribjasper save --lead-in 0 <"$work/blocks" >"$work/saved"
 
 program=bin/ribjasper
 failures=0
-# Runs a command with a request refused, and says what came of it: run NUMBER OUT ERR WORDS..
+# run NUMBER OUT ERR WORDS ..: runs a command with one request refused, and prints the result
 run() {
     number=$1 out=$2 err=$3
     shift 3
@@ -32,7 +32,7 @@ run() {
     echo "$status"
 }
 
-# Tries a command with each request refused.
+# Tries a command with each request refused in turn.
 try() {
     ample=$(run -1 "$work/ample.out" "$work/ample.err" "$@")
     requests=$(cat "$work/count")
@@ -73,7 +73,7 @@ try text --lead-in 12 -- "$work/texts"
 try trial --seed 42 --pictures 1
 [ "$failures" = 0 ] || { echo "$failures runs ended in another way"; exit 1; }
 
-# A program that takes memory and does the statement where there is none: careless NAME STATEMENT
+# careless NAME STATEMENT: a program that allocates memory and executes the statement if there is none
 careless() {
     printf '#include <stdio.h>\n#include <stdlib.h>\nint main(void) {
     char *volatile memory = malloc(1000);

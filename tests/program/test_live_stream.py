@@ -1,8 +1,8 @@
 #!/usr/bin/env python3
-"""Tests that a live stream is not held back: bin/ribjasper writes what some units give before it waits for more.
+"""Tests that a live stream is not delayed: bin/ribjasper writes the output for some units before it waits for more.
 
-No clause says when a program waits, so each command that passes a stream on is given one down a pipe, a unit at a time.
-It has to have written what it writes for the units so far while the pipe stays open. It needs bin/ribjasper."""
+No clause says when a program waits. So each command that processes a stream gets one through a pipe, unit by unit.
+While the pipe stays open, the command must have written its output for the units so far. Needs bin/ribjasper."""
 import os
 import pathlib
 import random
@@ -17,7 +17,7 @@ from typing import IO
 
 PROGRAM = pathlib.Path(__file__).resolve().parents[2] / "bin" / "ribjasper"
 
-# How long the program may take to pass on what it was given, in seconds.
+# The longest time for the program to write its output, in seconds.
 PATIENCE = 20.0
 
 BLOCK = 96
@@ -25,24 +25,24 @@ PACK = 24
 
 
 def setUpModule() -> None:
-    """Nothing is tried of a program that is not built."""
+    """Skips the tests if the program is not built."""
     if not os.access(PROGRAM, os.X_OK):
         raise unittest.SkipTest("there is no bin/ribjasper (make)")
 
 
 def stream(size: int) -> bytes:
-    """Bytes of any kind, the same at each run."""
+    """Some bytes, the same in each run."""
     return random.Random(96).randbytes(size)
 
 
 def told_of(words: list[str], given: bytes) -> bytes:
-    """What a command writes for an input that ends."""
+    """The output of a command for an input that ends."""
     return subprocess.run([PROGRAM, *words], input=given, stdout=subprocess.PIPE, stderr=subprocess.DEVNULL).stdout
 
 
 @contextmanager
 def at_work(words: list[str], source: int) -> Iterator[subprocess.Popen[bytes]]:
-    """A command that reads from a pipe, and is ended at last whatever it does."""
+    """A running command that reads from a pipe; it is always ended."""
     process = subprocess.Popen([PROGRAM, *words], stdin=source, stdout=subprocess.PIPE, stderr=subprocess.DEVNULL)
     try:
         yield process
@@ -52,7 +52,7 @@ def at_work(words: list[str], source: int) -> Iterator[subprocess.Popen[bytes]]:
 
 
 def taken(output: IO[bytes], count: int) -> bytes:
-    """So many bytes of an output, or those that came in time."""
+    """`count` bytes of an output, or those that came in time."""
     got = b""
     until = time.monotonic() + PATIENCE
     with selectors.DefaultSelector() as selector:
@@ -67,17 +67,17 @@ def taken(output: IO[bytes], count: int) -> bytes:
 
 
 def is_quiet(output: IO[bytes]) -> bool:
-    """Nothing can be read of an output at once."""
+    """Whether nothing can be read from an output at once."""
     with selectors.DefaultSelector() as selector:
         selector.register(output, selectors.EVENT_READ)
         return not selector.select(0.05)
 
 
 class LiveStream(unittest.TestCase):
-    """Commands that pass a stream on, unit by unit."""
+    """Commands that process a stream unit by unit."""
 
     def passes_on(self, words: list[str], unit: int, counts: list[int]) -> None:
-        """After each of these numbers of units all that they give has been written, and no more."""
+        """After each of these numbers of units, the whole output for them has been written, and no more."""
         whole = stream(unit * counts[-1])
         source, feed = os.pipe()
         with at_work(words, source) as process, open(feed, "wb", buffering=0) as feeder:
@@ -85,7 +85,7 @@ class LiveStream(unittest.TestCase):
             assert process.stdout is not None
             sent, seen = 0, b""
             for count in counts:
-                # The first half of a unit gives nothing.
+                # The first half of a unit has no output.
                 for end in (count * unit - unit // 2, count * unit):
                     feeder.write(whole[sent:end])
                     sent = end
@@ -129,7 +129,7 @@ class LiveStream(unittest.TestCase):
                 os.mkfifo(name)
             with at_work([*words, "--", *names], subprocess.DEVNULL) as process:
                 assert process.stdout is not None
-                # The second is opened only when a block of the first has come.
+                # The second input is opened only after a block of the first has come.
                 with open(names[0], "wb", buffering=0) as first:
                     first.write(blocks[0])
                     with open(names[1], "wb", buffering=0) as second:
@@ -143,7 +143,8 @@ class LiveStream(unittest.TestCase):
 
 
 def merged_size(blocks: int) -> int:
-    """How many bytes of packs a merge of so many pairs of blocks writes: four packs a block, but for the first seven."""
+    """The size of the packs that a merge writes for some pairs of blocks: four packs per block, except for the first
+    seven."""
     return max(4 * blocks - 7, 0) * PACK
 
 

@@ -1,6 +1,7 @@
 #!/usr/bin/env python3
-"""Tries sentences of docs/FORMATS.md that a second program, written from it alone, had to guess before they stood there:
-try_formats.py PROGRAM [--windows]. What is wanted is worked out here from these sentences, without a line of the program."""
+"""Tests sentences of docs/FORMATS.md that were missing when a second program was written from that document only:
+try_formats.py PROGRAM [--windows]. The expected results are computed here from these sentences, without code of the
+program."""
 from __future__ import annotations
 
 import site
@@ -20,7 +21,7 @@ FRAME = bytes([0x01, 1, 1, 0, 0, 0, 0, 0, 2, 0])
 
 
 def block(frame: bytes) -> bytes:
-    """A block with the ten bytes of a frame and their check in Q, and nothing in the other channels."""
+    """A block with the ten bytes of a frame and their check in channel Q, and zeros in the other channels."""
     bits = "".join(f"{byte:08b}" for byte in frame + check(frame))
     return bytes(int(bit) << 6 for bit in bits)
 
@@ -31,7 +32,7 @@ def recording_code(characters: list[int]) -> bytes:
 
 
 def text_packs(stream: bytes, blocks: int) -> set[bytes]:
-    """The packs that the slots of a lead-in carry."""
+    """The packs in the slots of a lead-in."""
     slots = (stream[at : at + 24] for at in range(0, 96 * blocks, 24))
     return {int("".join(f"{byte & 63:06b}" for byte in slot), 2).to_bytes(18, "big") for slot in slots}
 
@@ -140,7 +141,7 @@ class FormatsTest(unittest.TestCase):
         wanted = bytes([0, 1, 12, 0, needed, *14 * [0], 3, needed + 2, *7 * [0], 9, *7 * [0]])
         self.assertEqual(sizes, wanted)
         self.assertEqual(self.author(sheet, lead_in=1)[2], f"refused lead-in-short {max(3 * 12 + 9, -(-(needed + 3) // 4))}")
-        # A string of so many letters, one that is empty, and three size packs; four packs in a block.
+        # A string of this length, an empty one, and three size packs; each block has four packs.
         for letters, lead_in, line in ((1000, 13, "refused lead-in-short 22"), (5000, 99, "refused text-too-long 420"),
                                        (5000, 0, "")):
             self.assertEqual(self.author([f'TITLE "{letters * "x"}"', FILE, TRACK, INDEX], lead_in=lead_in)[2], line)
@@ -163,7 +164,8 @@ class FormatsTest(unittest.TestCase):
                 self.assertEqual(line, "rect " + " ".join(map(str, wanted)))
 
     def test_scratches(self) -> None:
-        """Of a file, whose blocks are at hand: the lead-in stays, and the program has the bursts of the seed."""
+        """With a file, whose blocks are processed together: the lead-in is unchanged, and the program has the bursts of
+        the seed."""
         lead_in, stream = 40, bytes(byte % 256 for byte in range(96 * 700))
         scratched, end, words = bytearray(stream), 96 * lead_in, words_of(7)
         while end < len(stream):
@@ -176,7 +178,7 @@ class FormatsTest(unittest.TestCase):
         self.assertEqual(ran, (0, bytes(scratched), ""))
 
     def test_an_output_that_is_full(self) -> None:
-        """What is kept back to the end is not lost in silence."""
+        """If the output that was kept until the end cannot be written, this is reported."""
         with open("/dev/full", "wb") as full:
             call = [PROGRAM, "convert", "--lead-in", "0"]
             ran = subprocess.run(call, input=bytes(192), stdout=full, stderr=subprocess.PIPE)

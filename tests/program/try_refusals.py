@@ -1,6 +1,6 @@
 #!/usr/bin/env python3
-"""Tries the example lines in the tables of docs/FORMATS.md that say why a cue sheet or a script is refused:
-try_refusals.py PROGRAM. Each has to be refused, for its reason, after one of a few beginnings that are accepted."""
+"""Tests the example lines in the tables of docs/FORMATS.md with the reasons why a cue sheet or a script is refused:
+try_refusals.py PROGRAM. Each line must be refused for its reason, after each of a few beginnings that are accepted."""
 import argparse
 import site
 import subprocess
@@ -13,7 +13,7 @@ from formats import FORMATS, bare, quoted, reasons  # noqa: E402
 
 FILE, TRACK, INDEX = 'FILE "a.wav" WAVE', "TRACK 01 AUDIO", "INDEX 01 00:00:00"
 SHEET = [FILE, TRACK, INDEX]
-# What may stand before the example of each kind of text.
+# What may precede the example of each kind of text.
 BEGINNINGS: dict[str, list[list[str]]] = {
     "cue": [[], [FILE], [FILE, TRACK], SHEET, [FILE, TRACK, 'TITLE "One"'], [FILE, TRACK, "INDEX 01 00:01:00"]],
     "script": [[]],
@@ -21,7 +21,7 @@ BEGINNINGS: dict[str, list[list[str]]] = {
 
 
 def told(program: str, sheet: list[str], script: list[str]) -> str:
-    """What the program says of a sheet and a script."""
+    """The answer of the program to a sheet and a script."""
     with tempfile.TemporaryDirectory() as folder:
         names = []
         for name, lines in (("sheet", sheet), ("script", script)):

@@ -1,5 +1,5 @@
 /* Feeds the raw stream on standard input, and writes the screen after BLOCKS blocks to standard output, as a pixmap: player BLOCKS.
-   With -m it measures how long a block and a picture take. */
+   With -m it measures the time of a block and of a picture. */
 #include "ribjasper_c.h"
 
 #include <stdio.h>

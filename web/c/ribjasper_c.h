@@ -1,10 +1,10 @@
-/* The CD+G player of Ribjasper as plain C, for systems that have no library of it. ribjasper_wasm.c is the proved module for web
+/* The CD+G player of Ribjasper as plain C, for systems without a library of it. ribjasper_wasm.c is the proved module for web
    pages, translated to C by wasm2c; these calls pass bytes to it and back. The player has the same answers and pictures as the
    native library, and takes about three times as long. Licensed under MIT or Apache-2.0: (c) 2026 The Ribjasper authors.
 
-   Compile with the C files beside: cc -O2 -DWASM_RT_MEMCHECK_SIGNAL_HANDLER=0 player.c ribjasper_c.c ribjasper_wasm.c
-   wasm-rt-impl.c -lm. The processor has to have its lowest byte first. Players may be used in several threads, one call at a time
-   each; the first one is opened before other threads do so. */
+   Compile with the C files in this folder: cc -O2 -DWASM_RT_MEMCHECK_SIGNAL_HANDLER=0 player.c ribjasper_c.c ribjasper_wasm.c
+   wasm-rt-impl.c -lm. The processor must be little-endian. Several threads may use players, one call at a time for each
+   player; open the first player before other threads open one. */
 #ifndef RIBJASPER_C_H
 #define RIBJASPER_C_H
 
@@ -27,13 +27,13 @@ extern "C" {
 
 typedef struct ribjasper_c ribjasper_c;
 
-/* Opens a player; null if memory is short. It begins with raw blocks and no lead-in. */
+/* Opens a player; null if there is no memory. It begins with raw blocks and no lead-in. */
 ribjasper_c *ribjasper_c_open(void);
 
-/* Closes a player and frees what it holds; a null pointer is ignored. */
+/* Closes a player and frees its memory; a null pointer is ignored. */
 void ribjasper_c_close(ribjasper_c *player);
 
-/* Begins anew: 0, or -1 if the form or the number of lead-in blocks is out of range, and then nothing changes. */
+/* Begins a new stream: 0, or -1 if the form or the number of lead-in blocks is out of range, and then nothing changes. */
 int ribjasper_c_begin(ribjasper_c *player, uint32_t form, uint32_t lead_in);
 
 /* Feeds a block, or draws a pack. */
@@ -47,7 +47,7 @@ void ribjasper_c_picture(ribjasper_c *player, uint8_t picture[RIBJASPER_C_PICTUR
 /* Writes a checkpoint of a raw stream: 0, or -1 if the player has none, and then nothing is written. */
 int ribjasper_c_save(ribjasper_c *player, uint8_t file[RIBJASPER_C_FILE]);
 
-/* Goes on from a checkpoint: 0; or -1 if it is none, and then nothing changes. */
+/* Restores a checkpoint: 0; or -1 if the file is none, and then nothing changes. */
 int ribjasper_c_load(ribjasper_c *player, const uint8_t file[RIBJASPER_C_FILE]);
 
 #ifdef __cplusplus

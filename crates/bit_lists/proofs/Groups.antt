@@ -14,7 +14,7 @@ length-groups width (x ∷ xs) =
     let rest = length-groups width xs in
     length-append (bits_of width x) (flat_map (bits_of width) xs) ∙ omega (arith, length-bits_of width x)
 
--- the parts of the bits of numbers are the bits of each
+-- cutting the joined bits of numbers gives the bits of each number
 parts-groups : (width : ℕ) (xs : List ℕ)
     → parts (length xs) width (flat_map (bits_of width) xs) ≡ map (bits_of width) xs
 parts-groups width [] = refl
@@ -76,7 +76,7 @@ groups-numbers width (suc n) bs size =
     (groups-numbers width n (drop width bs) back_size)
     ∙ take-append-drop width bs
 
--- where a list of bits is that of symbols, the symbols are its numbers
+-- the symbols of 18 bytes have the bits of these bytes
 pub symbols_have_bits : (bytes : List ℕ) → length bytes ≡ 18
     → flat_map (bits_of 6) (numbers_of 6 (bits_of_bytes bytes)) ≡ bits_of_bytes bytes
 unfolding numbers_of
@@ -86,6 +86,6 @@ symbols_have_bits bytes size =
     ap (λ n. flat_map (bits_of 6) (map number_of (parts n 6 (bits_of_bytes bytes)))) count
     ∙ groups-numbers 6 24 (bits_of_bytes bytes) (omega arith)
 
--- what holds at each place, the default 0 beyond the end included, holds of each element
+-- if the value at every place (0 beyond the end) is below a bound, so is every element
 pub all_below_bound : (bound : ℕ) (xs : List ℕ) → ((i : ℕ) → get_or xs i 0 < bound) → All (λ x. x < bound) xs
 all_below_bound bound xs each k d lt = subst (λ x. x < bound) (get_or_default xs k 0 d lt) (each k)

@@ -1,4 +1,4 @@
--- Two bytes taken into the register by two tables.
+-- Two bytes added to the register by two tables.
 use Rattle.std.proofs.Common.{◌≡◌, ℕ, ◌+◌, ◌*◌, ◌/◌, ◌%◌, ◌^◌, ◌<◌, ◌≤◌, Bool, false, List, [], ◌++◌, get_or, bit_xor, length, replicate, refl, sym, ap, ap₂, ◌∙◌, arith, length-append, append-nil, append_assoc}
 use Rattle.std.proofs.lemmas.Nat.{xor_lt}
 use Rattle.bit_lists.specs.Bits.{bits_of}
@@ -11,7 +11,7 @@ use Rattle.bit_lists.specs.declared.check.TheConstants.{REMAINDERS, HIGH_REMAIND
 use Rattle.bit_lists.specs.Register.{TakesPair}
 use Rattle.bit_lists.proofs.Remainders.{REMAINDERS_at, HIGH_REMAINDERS_at}
 
--- bits that stand in front of others are taken in two parts
+-- two bytes in front of other bits, as a sum of three lists
 in_front : (x y rest : List Bool) → length x ≡ 8 → length y ≡ 8 → 16 ≤ length rest
     → x ++ (y ++ rest)
     ≡ combined (x ++ replicate 24 false)

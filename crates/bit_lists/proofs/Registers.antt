@@ -1,4 +1,4 @@
--- What the register holds after some bytes.
+-- The register after some bytes.
 use Rattle.std.proofs.Common.{◌≡◌, ℕ, ◌+◌, ◌-◌, ◌*◌, ◌/◌, ◌%◌, ◌^◌, ◌<◌, false, not, map, Bool, List, [], ◌∷◌, ◌++◌, get_or, bit_xor, length, take, replicate, sym, ap, ap₂, ◌∙◌, arith, length-append, append-nil, append_assoc, subst}
 use Rattle.std.proofs.lemmas.Nat.{xor_lt}
 use Rattle.std.proofs.Math.Seq.{take-length}
@@ -92,7 +92,7 @@ ends bytes register lt all =
     let number : 2 ^ 16 - 1 - register ≡ number_of (map not (bits_of 16 register)) = omega arith in
     number ∙ sym (ap (λ bs. number_of (map not bs)) remains)
 
--- the register behind some bytes and the first so many of others
+-- `register` continues the register `begun` by the first `taken` bytes
 abbrev pub GoesOn : ℕ → List ℕ → ℕ → ℕ → Type 0
 GoesOn begun bytes taken register = (before : List ℕ) → IsRegisterOf before begun
     → IsRegisterOf (before ++ take taken bytes) register

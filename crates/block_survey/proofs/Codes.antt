@@ -1,7 +1,7 @@
 -- Codes that are tested part by part.
 use Rattle.std.proofs.Common.{◌≡◌, ℕ, List, subst, sym}
 
--- two parts pass, and the third is tested as `rest`, which is what stands there
+-- the first two parts pass, so the test of the third part, `rest`, decides
 pub third_tested : {front middle passes : Type 0} (tested : List ℕ → Type 0) (rest there : List ℕ)
     → rest ≡ there → front → middle → (passes → tested rest) × (tested rest → passes)
     → (passes → front × middle × tested there) × (front × middle × tested there → passes)

@@ -10,7 +10,7 @@ use Rattle.stream_stages.proofs.Recovers.{found_itself}
 use Rattle.block_survey.specs.Rows.{wrong_count, bad_words, marks_of, marked_found}
 use Rattle.block_survey.specs.declared.counting.WordMarks.{WordMarks}
 
--- a word more that passes a test, or does not
+-- the count of words that pass a test, with one more word
 more : (test : List ℕ → Bool) (words : List (List ℕ)) (i : ℕ) (word : List ℕ) → i < length words
     → word ≡ get_or words i word
     → count_by test (take (i + 1) words) ≡ count_by test (take i words) + (if test word then 1 else 0)
@@ -47,7 +47,7 @@ four_clean is =
     } in
     ap counts (found_itself zeros is)
 
--- a word with no codeword near
+-- a word that is far from every codeword counts as bad
 pub bad_more : (s : WordMarks) (word : List ℕ) → record s { bad = s.bad + 1 } ≡ marked_found s word None
 bad_more s word =
     let same : (n : ℕ) → n ≡ n + 0 = λ n. omega arith in

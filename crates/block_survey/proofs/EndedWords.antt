@@ -20,7 +20,7 @@ use Rattle.stream_stages.proofs.StageRuns.{all_items, words_run}
 use Rattle.stream_stages.proofs.Conversion.{length-units_of, units_sized, blocks_sized}
 use Rattle.block_survey.specs.Rows.{ended_words, words_with_block}
 
--- ---- where the blocks stand
+-- ---- the places of the blocks
 
 -- part b of a list
 part_at : (count size : ℕ) (xs : List ℕ) (b : ℕ) → b < count
@@ -114,7 +114,7 @@ map_from f m a (suc n) =
     let next : m + (a + 1) ≡ m + a + 1 = omega arith in
     ap (λ l. f (m + a) ∷ l) (map_from f m (a + 1) n ∙ ap (λ k. map f (range_with_len k n)) next)
 
--- what stands between two parts of a mapped list of numbers
+-- the middle part of a mapped list of numbers is the map of its own numbers
 middle : {X : Type 0} (f : ℕ → X) (n : ℕ) (xs ys zs : List X) (d : X) → map f (below n) ≡ xs ++ (ys ++ zs)
     → ys ≡ map f (range_with_len (length xs) (length ys))
 middle {X = X} f n xs ys zs d e =
@@ -136,7 +136,7 @@ sized_take size zero xs all = tt
 sized_take size (suc n) [] all = tt
 sized_take size (suc n) (x ∷ xs) all = (all.0, sized_take size n xs all.1)
 
--- a list round one of its elements
+-- a list is the elements before one of its elements, this element, and the rest
 around : (xs : List (List ℕ)) (b : ℕ) → b < length xs → xs ≡ take b xs ++ (get_or xs b [] ∷ drop (b + 1) xs)
 around xs b lt =
     sym (take-append-drop (b + 1) xs)

@@ -1,4 +1,4 @@
--- The rows of a stream add up to what is counted of all of it.
+-- The rows of a stream add up to the counts of the whole stream.
 use Rattle.std.proofs.Common.{◌≡◌, ℕ, zero, suc, ◌+◌, ◌-◌, ◌/◌, ◌<◌, ◌≤◌, Bool, false, List, [], ◌∷◌, ◌++◌, length, get_or, map, drop, Some, None, refl, sym, ap, ap₂, ◌∙◌, arith, length-drop, Result, Ok, Err, set, take}
 use Rattle.std.specs.Prelude.{if◌then◌else◌, nat_le, count_by, sum_by, is_none, is_ok, is_err, min}
 use Rattle.std.specs.declared.option.Option.{Option}
@@ -134,7 +134,7 @@ module _ (form : Form) (lead_in : ℕ) (bytes : List ℕ) where
     length-drop lead_in (blocks_of form bytes),
   )
 
-  -- what is found for all words
+  -- the findings for all words
   found_is : (found : List (Option (List ℕ))) → IsRecovered form (program_symbols form bytes lead_in) found
       → found ≡ map finding (map word_at (below (word_count form (length (blocks_of form bytes) - lead_in))))
   found_is found r =
@@ -197,7 +197,7 @@ readings_by_number blocks =
     fill_by_all (λ b. reading_at (get_or blocks b [])) (map reading_at blocks) (length blocks) (Err BadCrc)
     (length-map blocks reading_at) (λ b lt. get_or-map reading_at blocks b [] (Err BadCrc) lt)
 
--- a count of rows with frames is that of readings
+-- the number of rows with such a frame is the number of such readings
 abbrev CountsFrames : (BlockRow → Bool) → (Result QFrame QFault → Bool) → Form → ℕ → List ℕ
     → List (Result QFrame QFault)
     → Type 0

@@ -1,4 +1,4 @@
--- A block more, counted.
+-- Counts with one more block.
 use Rattle.std.proofs.Common.{◌≡◌, ◌+◌, ◌-◌, ◌^◌, ℕ, Bool, List, [], ◌∷◌, ◌++◌, length, refl, ap, ap₂, sym, ◌∙◌, arith}
 use Rattle.std.specs.Prelude.{count_by, min, sum_by, Option, Some, None, Result, Ok, Err, if◌then◌else◌, is_none}
 use Rattle.std.proofs.lemmas.List.{length-append}
@@ -14,7 +14,7 @@ use Rattle.live_player.specs.Lives.Given.{Fed}
 use Rattle.block_survey.specs.Tallies.{tallied_count, frame_after, more_read, more_refused, place_after, read_count, refused_count, tallied, IsTallyOf}
 use Rattle.block_survey.specs.declared.tally.PlayerTally.{PlayerTally}
 
--- a count that stays at its last value
+-- a saturating count, increased
 stays : (count a k most : ℕ) → count ≡ min a most → min (count + k) most ≡ min (a + k) most
 stays count a k most is = omega (arith, is)
 
@@ -44,7 +44,7 @@ refused_more count a most (Some (Err fault)) most_is is =
     ap (λ m. min (count + 1) m) (sym most_is) ∙ stays count a 1 most is
 refused_more count a most None most_is is = omega (arith, is)
 
--- a sum with one more
+-- a sum with one more block
 one_more : (f : List ℕ → ℕ) (blocks : List (List ℕ)) (block : List ℕ)
     → sum_by f (blocks ++ block ∷ []) ≡ sum_by f blocks + f block
 one_more f blocks block = sum_by-append f blocks (block ∷ []) ∙ omega arith

@@ -1,4 +1,4 @@
--- What is written of a stream that goes on from the file of its first part.
+-- What is written for a stream that is resumed from the file of its first part.
 use Rattle.std.proofs.Common.{◌≡◌, ◌≢◌, ℕ, zero, suc, ◌+◌, ◌-◌, ◌*◌, ◌/◌, ◌%◌, ◌<◌, ◌≤◌, List, [], ◌∷◌, ◌++◌, length, get_or, take, drop, replicate, refl, sym, ap, ap₂, ◌∙◌, subst, arith, length-append, length-drop, None, Some}
 use Rattle.std.specs.Prelude.{Option, min, Result, Ok, Err, is_none}
 use Rattle.std.specs.List.{AllByRecursion}
@@ -42,7 +42,7 @@ use Rattle.cdg_checkpoint.proofs.Joined.{resumed_whole}
 use Rattle.cdg_checkpoint.proofs.Meant.{IsSmall, meant_small, sound_after}
 use Rattle.cdg_checkpoint.proofs.SavedStreams.{symbols_are, symbols_count}
 
--- ---- what is saved is sound
+-- ---- a saved checkpoint is sound
 
 zeros_small : (n i : ℕ) → get_or (replicate {A = ℕ} n 0) i 0 < 64
 zeros_small zero i = omega arith
@@ -139,7 +139,7 @@ viewed_screen lead_in time bytes now bad v =
       bad_is = v.bad_is;
     }
 
--- ---- the screen at a time is one
+-- ---- a time has only one screen
 
 one_meant : (found : List (Option (List ℕ))) (one other : List Instr) → AreMeant found one
     → AreMeant found other
@@ -206,7 +206,7 @@ module _ (lead_in n len time : ℕ) (c : Checkpoint) (few : n ≤ 1000000) (to_c
   answered (Err (PastEnd blocks)) h =
       (omega (arith, h.0, read, few), omega (arith, h.1), omega (arith, h.2, to_come, program), h.3)
 
--- ---- from the file on
+-- ---- resumed from the file
 
 module _ (lead_in n : ℕ) (bytes file : List ℕ) (pumped : Pumped) (first : IsFirstPart lead_in bytes)
     (size : length bytes ≡ n * 96) (saved : IsSaved lead_in bytes pumped file) where
@@ -328,7 +328,7 @@ module _ (lead_in time : ℕ) (bytes rest file taken : List ℕ) (pumped : Pumpe
   IsPast blocks =
       (length (bytes ++ taken) % 96 ≡ 0) × (blocks ≡ length (bytes ++ taken) / 96 - lead_in) × (blocks < time)
 
-  -- a call that stopped, and put nothing
+  -- a call that stopped and wrote nothing
   stopped : (stop : PlayStop) → stop ≢ play.WriteFault → Appends out.before out.after []
       → (¬ (IsEarly stop) → IsAtEnd left') → ((blocks : ℕ) → stop ≡ play.PastEnd blocks → IsPast blocks)
       → IsCall (Err stop)

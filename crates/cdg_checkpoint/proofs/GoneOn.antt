@@ -1,4 +1,4 @@
--- From the run of the words after a checkpoint to what stands.
+-- From the run of the words after a checkpoint to the standing.
 use Rattle.std.proofs.Common.{◌≡◌, ℕ, zero, suc, ◌+◌, ◌-◌, ◌*◌, ◌/◌, ◌%◌, ◌<◌, ◌≤◌, List, [], ◌∷◌, ◌++◌, length, get_or, map, take, drop, refl, sym, ap, ap₂, ◌∙◌, subst, arith, length-append, length-drop, None, inl, inr}
 use Rattle.std.specs.Prelude.{min}
 use Rattle.std.specs.List.{concat, flat_map, range_with_len}
@@ -147,9 +147,9 @@ both_small xs ys small small' p =
       | inr before ↦ subst P (sym (get_or_append_left xs ys 0 p (omega (arith, before.1)))) (small p)
     ]
 
--- ---- what stands
+-- ---- the standing
 
--- the state of a checkpoint is brought back, to play up to a time
+-- `s` is the state that is restored from a checkpoint, in order to play up to a time
 pub record IsBroughtBack (c : Checkpoint) (time : ℕ) (s : Then BlockWords Painting) : Type 0 where
   pub words : s.first
       ≡ record { form = Raw; lead_in = c.to_come; gather = run_state gather_next [] (saved_slots c) }
@@ -157,7 +157,7 @@ pub record IsBroughtBack (c : Checkpoint) (time : ℕ) (s : Then BlockWords Pain
   pub bad : s.second.bad ≡ c.bad
   pub stands : s.second.screen ≡ c.standing
 
--- the ranges that matter
+-- the values of a checkpoint are in their ranges, as far as the proofs need it
 pub record IsSound (c : Checkpoint) : Type 0 where
   pub size : length c.slots ≡ 168
   pub small : (i : ℕ) → get_or c.slots i 0 < 64

@@ -1,4 +1,4 @@
--- A stream that goes on from a checkpoint is the whole stream.
+-- A stream that is resumed from a checkpoint is the whole stream.
 use Rattle.std.proofs.Common.{◌≡◌, ℕ, zero, suc, ◌+◌, ◌-◌, ◌*◌, ◌/◌, ◌%◌, ◌<◌, ◌≤◌, List, [], ◌∷◌, ◌++◌, length, get_or, map, take, drop, replicate, refl, sym, ap, ap₂, ◌∙◌, subst, arith, length-append, length-drop, append_assoc, None, Some, inl, inr}
 use Rattle.std.specs.Prelude.{Option}
 use Rattle.std.specs.List.{flat_map, range_with_len}
@@ -27,7 +27,7 @@ use Rattle.cdg_checkpoint.specs.Saved.{IsCheckpointOf}
 use Rattle.cdg_checkpoint.specs.Resumed.{IsGoneOn, packs_until, resumed_symbols}
 use Rattle.cdg_checkpoint.proofs.SavedStreams.{symbols_are, symbols_count}
 
--- ---- instructions in a row
+-- ---- instructions one after another
 
 meant_both : (early late : List (Option (List ℕ))) (one other : List Instr) → AreMeant early one
     → AreMeant late other

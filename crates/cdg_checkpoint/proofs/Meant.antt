@@ -1,4 +1,4 @@
--- The numbers that instructions of codewords say are in their ranges, and so is what stands after them.
+-- The numbers in instructions of codewords are in their ranges, and so is the standing after them.
 use Rattle.std.proofs.Common.{◌≡◌, ℕ, zero, suc, ◌+◌, ◌-◌, ◌*◌, ◌%◌, ◌<◌, ◌≤◌, Bool, true, false, cond, List, [], ◌∷◌, ◌++◌, length, get_or, map, take, drop, reverse, refl, sym, ap, ◌∙◌, subst, arith, lit<, Some, None, inl, inr}
 use Rattle.std.specs.Prelude.{⊤, Option, nat_lt, ◌&&◌, slice_index}
 use Rattle.std.specs.List.{AllByRecursion, range_with_len}
@@ -96,7 +96,7 @@ means_small word (Transparency levels) small m = levels_small word levels small 
 means_small word (ColoursLow colours) small m = table_small word colours small m.1
 means_small word (ColoursHigh colours) small m = table_small word colours small m.1
 
--- ---- all instructions of what is found
+-- ---- all instructions of the words that are found
 
 all_found : (found : List (Option (List ℕ)))
     → ((n : ℕ) → n < length found → IsSmallFound (get_or found n None))
@@ -129,7 +129,7 @@ meant_small found word n instrs each meant =
     (all_taken n found (all_found found (λ k lt. finding_small (word k) (get_or found k None) (each k lt))))
     meant
 
--- ---- what stands after them
+-- ---- the standing after them
 
 all_after : (xs ys : List Instr) → AllByRecursion IsSmall xs → AllByRecursion IsSmall ys
     → AllByRecursion IsSmall (xs ++ ys)

@@ -35,7 +35,7 @@ row_taken c row y (suc n) most is size small =
     ∙ ap (λ l. first_fields c Memory (300 * y) ++ l)
     (sym (take_more row n 0 (omega (arith, lt, size))) ∙ ap (λ k. take k row) (sym more))
 
--- one row more was put
+-- one more row was written
 pub row_put : (file new old row : List ℕ) (c : Checkpoint) (y : ℕ) → new ≡ old ++ row
     → old ≡ file ++ first_fields c Memory (300 * y)
     → row ≡ get_or c.standing.memory y [] → length row ≡ 300 → All (λ pixel. pixel < 16) row

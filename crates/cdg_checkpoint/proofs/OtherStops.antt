@@ -1,4 +1,4 @@
--- Which answer is no other one, and what still holds of a file that is kept.
+-- Answers that differ from each other, and facts about a file that is kept.
 use Rattle.std.proofs.Common.{◌≡◌, ◌≢◌, ℕ, ◌*◌, ◌<◌, ◌≤◌, List, length, sym, subst, ap, arith, ◌⊎◌, inl, inr}
 use Rattle.std.specs.Prelude.{Option, Some, None, Result, Ok, Err, IfSome, IsOk, IsErr, nat_lt, ◌==◌, ◌%◌, ◌/◌}
 use Rattle.cdg_io.specs.Causes.{Count}
@@ -41,14 +41,14 @@ torn_no_read stop unit is = λ e. (cc)
 pub long_no_read : (stop : PumpStop) → stop ≡ pump_stop.TooLong → pump_stopped stop ≢ Err pump_stop.ReadFault
 long_no_read stop is = λ e. (cc)
 
--- how the end was told by a stop that is known
+-- how a known stop reports the end of the input
 pub told_by : (stop other : PumpStop) (before now : Count) → pump_stopped stop ≡ Err other
     → TellsEndOf (Err stop) before now
     → TellsEndOf (Err other) before now
 told_by stop other before now is told =
     subst (λ (r : Result Pumped PumpStop). TellsEndOf r before now) is told
 
--- ---- The answer by the length of the rest, where a fault was met or the rest is too long.
+-- ---- The answer by the length of the rest, if a fault occurred or the rest is too long.
 
 pub fault_by : (left : Option (List ℕ)) (c : Checkpoint) (time : ℕ)
     → IfSome left (λ all. IsGoneOnBy (Err SecondFault) c time (length all))
@@ -109,7 +109,7 @@ long_no_write = λ e. (cc)
 pub second_is_not_past : (n : ℕ) → SecondFault ≢ PastEnd n
 second_is_not_past n = λ e. (cc)
 
--- ---- The checkpoint accepted, or not.
+-- ---- The checkpoint is accepted, or not.
 
 pub accepted_no_stop : (done : Unit {0}) (stop : ResumeStop) → Ok done ≢ Err stop
 accepted_no_stop done stop = λ e. (cc)
@@ -162,11 +162,11 @@ pub answer_still : (left : Option (List ℕ)) (file now : List ℕ) (time : ℕ)
 answer_still left file now time result kept h =
     subst (λ f. IfSome left (λ all. IsResumedBy result (checkpoint_in f) time (length all))) (sym kept) h
 
--- a count that is as it was
+-- an unchanged count
 pub no_less : (n : ℕ) → n ≤ n
 no_less n = omega arith
 
--- ---- How the first input was read, where it is accepted and where it is not.
+-- ---- How the first input was read, if it is accepted and if it is not.
 
 pub reads_on : (first : Input) (result : Result Resumed ResumeStop) (file now : List ℕ) → now ≡ file
     → result ≢ Err FirstFault → ReadsSaved {T = Unit {0}} first (Ok tt) file

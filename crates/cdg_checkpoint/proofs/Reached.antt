@@ -1,4 +1,4 @@
--- The answers of a stream that goes on.
+-- The answers for a resumed stream.
 use Rattle.std.proofs.Common.{◌≡◌, ℕ, ◌+◌, ◌-◌, ◌*◌, ◌/◌, ◌%◌, ◌==◌, ◌<◌, ◌≤◌, Bool, true, false, Some, None, List, [], length, get_or, take, drop, refl, sym, ap, ap₂, ◌∙◌, subst, arith, length-drop, Result, Ok, Err, IfSome, inl, inr}
 use Rattle.std.specs.Prelude.{Option, nat_lt, if◌then◌else◌}
 use Rattle.std.proofs.lemmas.Bool.Decides.{leb_tells}

@@ -10,7 +10,7 @@ length-bytes_of : (size n : ℕ) → length (bytes_of size n) ≡ size
 length-bytes_of zero n = refl
 length-bytes_of (suc size) n = ap suc (length-bytes_of size n)
 
--- the fields of a part from one on
+-- n fields of a part, from field a
 fields : ℕ → (ℕ → ℕ) → ℕ → ℕ → List ℕ
 fields size f a n = flat_map (λ k. bytes_of size (f k)) (range_with_len a n)
 
@@ -42,7 +42,7 @@ field_at size f (suc n) a (suc k) i lt within =
     ∙ field_at size f n (a + 1) k i (omega (arith, lt)) within
     ∙ ap (λ j. get_or (bytes_of size (f j)) i 0) here
 
--- a part with what follows it in the file, cut off
+-- the bytes of a file behind a part
 pub step : (file part rest : List ℕ) (a n b : ℕ) → drop a file ≡ part ++ rest → length part ≡ n → a + n ≡ b
     → drop b file ≡ rest
 step file part rest a n b at size e =
@@ -75,7 +75,7 @@ part_length c part n e = length-fields (row part).size (written_value c part) (r
 
 -- ---- where each part begins
 
--- the bytes from a part on
+-- the bytes from the first of these parts to the end
 abbrev pub from_on : Checkpoint → List Part → List ℕ
 from_on c rest = flat_map (part_bytes c) rest ++ bytes_of 2 (check_of (body c))
 

@@ -37,7 +37,7 @@ use Rattle.rw_interleave.specs.Gathering.{kept_symbols}
 use Rattle.stream_stages.specs.Steps.{words_give, words_next}
 use Rattle.stream_stages.specs.Drawn.{painting_next}
 
--- ---- the blocks of whole bytes
+-- ---- the blocks of a stream of whole blocks
 
 pub blocks_are : (n : ℕ) (bytes : List ℕ) → IsWhole 96 n bytes → blocks_of Raw bytes ≡ units_of 96 n bytes
 blocks_are n bytes whole =
@@ -154,7 +154,7 @@ module _ (lead_in : ℕ) (left left' held held' : Option (List ℕ)) (s s' : The
   keeps_cut before text e put =
       (w.taken_from, (pumped, saved, subst (λ (t : List ℕ). AppendsPrefix held held' t) e put))
 
--- any other stop leaves the file as it was
+-- a call with any other stop leaves the file as it was
 pub keeps_stop : (lead_in : ℕ) (taken : List ℕ) (held held' : Option (List ℕ)) (before after : List ℕ)
     (stop : PumpStop) → failed stop ≢ Err WriteFault → after ≡ before
     → KeepsFile lead_in taken (from_to held held') (from_to before after) (Err stop)

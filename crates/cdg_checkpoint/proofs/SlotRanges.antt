@@ -46,7 +46,7 @@ module _ (file : List ℕ) (empty : ℕ) (e : empty ≡ empty_symbols (number fi
     earlier = λ j lt. any_slot j (λ i e'. out.earlier i (omega (arith, e', lt)));
   }
 
--- ---- all all_parts
+-- ---- all parts
 
 pub all_checked : (file : List ℕ) (r : Result (Unit {0}) ℕ) → AllByRecursion (IsPartInRange file) body_parts
     → MatchResult r (λ _. IsPartInRange file Check) (IsOutOfPart file Check)
@@ -56,7 +56,7 @@ all_checked file (Ok done) (a, (b, (d, (e, (f, (g, (h, (i, (j, (k, (l, (m, n))))
 all_checked file (Err byte) before out =
     record { early = body_parts; part = Check; late = []; order = refl; earlier = before; here = out }
 
--- a file of its full length
+-- a file of the full length is a checkpoint if all its parts are in range
 pub file_checked : (file : List ℕ) (r : Result (Unit {0}) ℕ) → length file ≡ 65045
     → MatchResult r (λ _. AllByRecursion (IsPartInRange file) all_parts) (IsFirstOut file)
     → MatchResult r (λ _. IsCheckpointFile file) (IsBadAt file)
@@ -67,7 +67,7 @@ file_checked file (Err byte) size out = record {
   field = λ e. out;
 }
 
--- a part is out of its range: that is the answer
+-- the first part that is out of its range is the answer
 pub exits : (file : List ℕ) (r : Result (Unit {0}) ℕ) (byte : ℕ) → IsErrAnd r (λ e. e ≡ byte)
     → IsFirstOut file byte
     → MatchResult r (λ _. AllByRecursion (IsPartInRange file) all_parts) (IsFirstOut file)

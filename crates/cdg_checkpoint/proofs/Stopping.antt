@@ -1,4 +1,4 @@
--- How a stop of one step is the stop of the whole call.
+-- A stop of one step is the stop of the whole call.
 use Rattle.std.proofs.Common.{◌≡◌, ◌≢◌, ℕ, ◌+◌, ◌*◌, ◌≤◌, Bool, true, false, List, length, sym, subst}
 use Rattle.std.specs.Prelude.{Option, Some, None, Result, Ok, Err, IfSome, IsOk, nat_lt, if◌then◌else◌}
 use Rattle.std.specs.Io.KnownBytes.{IsAtEnd}
@@ -60,7 +60,7 @@ pub all_resumed_by : (left : Option (List ℕ)) (stop : ResumeStop) (c : Checkpo
 all_resumed_by None stop c time h = tt
 all_resumed_by (Some all) stop c time h = resumed_by stop c time (length all) h
 
--- the rest was taken as far as the stop says
+-- the rest was consumed as far as the stop says
 pub gone_on_to_stop : (c : Checkpoint) (time limit : ℕ) (left left' : Option (List ℕ)) (taken : List ℕ)
     (s s' : Then BlockWords Painting) (stop : PumpStop) (other : ResumeStop) → limit ≡ blocks_left c
     → TracksBlocks limit words_drawn (feeding (from_to left left') (from_to s s')) (Err stop) taken
@@ -74,7 +74,7 @@ gone_on_to_stop c time limit left left' taken s s' stop other fits w torn not_pa
   past_end = λ blocks e. absurd (not_past blocks (let same : other ≡ PastEnd blocks = cc in same));
 }
 
--- ---- What is answered after so many blocks.
+-- ---- The answer after the consumed blocks.
 
 abbrev answered : Bool → ℕ → ℕ → Result Resumed ResumeStop
 answered past blocks bad = if past then Err (PastEnd blocks) else Ok (record { blocks = blocks; bad = bad })

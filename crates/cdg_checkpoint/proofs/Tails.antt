@@ -14,7 +14,7 @@ use Rattle.stream_stages.proofs.Slots.{Sized, all_slots_sized, all_slots_togethe
 use Rattle.stream_stages.proofs.StageRuns.{window_run}
 use Rattle.cdg_checkpoint.specs.Saved.{last_symbols}
 
--- the last seven of the last seven and others are those of all
+-- the last seven of some slots can be taken before or after others follow
 seven_again : (w : List (List ℕ)) (s : List ℕ) (slots : List (List ℕ)) → length w ≤ 7
     → last_seven (last_seven (w ++ s ∷ []) ++ slots) ≡ last_seven (w ++ s ∷ slots)
 seven_again w s slots few =
@@ -91,7 +91,7 @@ unfolding window_next
 raw_window w [] = refl
 raw_window w (s ∷ slots) = raw_window (gather_next w s) slots
 
--- what a window keeps of a stream are its last symbols
+-- the symbols that a window keeps are the last symbols of the stream
 pub kept_after : (lead_in : ℕ) (s : BlockWords) (blocks : List (List ℕ))
     → s ≡ record { form = Raw; lead_in = lead_in; gather = [] } → Sized 96 blocks
     → kept_symbols (run_state words_next s blocks).gather

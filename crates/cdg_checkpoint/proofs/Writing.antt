@@ -8,7 +8,7 @@ use Rattle.bit_lists.specs.Check.{check_of}
 use Rattle.cdg_checkpoint.specs.Table.{Part, Slots, row, body_parts}
 use Rattle.cdg_checkpoint.specs.Checkpoint.{Checkpoint, written_value, bytes_of, part_bytes, with_parts, body, file_of}
 
--- one element more
+-- a mapped list with one more element
 pub flat_map_more : (f : ℕ → List ℕ) (a n j : ℕ) → a + n ≡ j
     → flat_map f (range_with_len a (n + 1)) ≡ flat_map f (range_with_len a n) ++ f j
 flat_map_more f a zero j e = append-nil (f a) ∙ ap f (omega (arith, e))
@@ -51,7 +51,7 @@ with_parts_are file c (part ∷ parts) =
     with_parts_are (file ++ part_bytes c part) c parts
     ∙ append_assoc file (part_bytes c part) (flat_map (part_bytes c) parts)
 
--- the bytes of a part with one field
+-- the bytes of a part that has one field
 pub one_field : (c : Checkpoint) (part : Part) (bytes : List ℕ) → (row part).count ≡ 1
     → bytes_of (row part).size (written_value c part 0) ≡ bytes
     → part_bytes c part ≡ bytes
@@ -60,7 +60,7 @@ one_field c part bytes one e =
     ∙ fields_more c part 0 bytes e
     ∙ ap (λ l. l ++ bytes) (no_fields c part)
 
--- bytes after those of a file, as a part of it
+-- a part of one field, behind the bytes of a file
 pub then_part : (file new old bytes : List ℕ) (c : Checkpoint) (part : Part) → new ≡ old ++ bytes → old ≡ file
     → (row part).count ≡ 1
     → bytes_of (row part).size (written_value c part 0) ≡ bytes → new ≡ file ++ part_bytes c part
@@ -75,7 +75,7 @@ written_byte n byte e lt = ap (bytes_of 1) e ∙ one_byte byte lt
 pub two_bytes : (n m : ℕ) → n ≡ m → bytes_of 2 n ≡ to_be_bytes w16 m
 two_bytes n m e = ap (bytes_of 2) e ∙ ap (λ b. (m / 256 % 256) ∷ b ∷ []) (omega arith)
 
--- one field more was put
+-- one more field was written
 pub field_put : (file new old bytes : List ℕ) (c : Checkpoint) (part : Part) (n : ℕ) → new ≡ old ++ bytes
     → old ≡ file ++ first_fields c part n
     → bytes_of (row part).size (written_value c part n) ≡ bytes → new ≡ file ++ first_fields c part (n + 1)

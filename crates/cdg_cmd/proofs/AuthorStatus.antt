@@ -1,4 +1,4 @@
--- The statuses of an answer to a sheet and a script.
+-- The statuses of the answers to a sheet and a script.
 use Rattle.std.proofs.Common.{◌≡◌, ◌≢◌, ℕ, List, [], Result, Ok, Err, OnOk, IfErr, refl, sym, ap, subst}
 use Rattle.std.specs.Io.KnownBytes.{Appends}
 use Rattle.cue_sheet.specs.CueSheet.{CueSheet}
@@ -13,7 +13,7 @@ use Rattle.cdg_cmd.specs.declared.status.Status.TheVariants.{Done, Usage, WriteF
 use Rattle.cdg_io.specs.Change.{Bytes, change}
 use Rattle.std.proofs.KnownBytes.{Appends-nil}
 
--- it is never one of these
+-- no answer has the status `Usage`
 pub never_usage : (answer : Result (Unit {0}) AuthorStop) → author_status answer ≢ Usage
 never_usage (Ok done) e = absurd (cc)
 never_usage (Err (stop.LengthShort need)) e = absurd (cc)
@@ -25,12 +25,12 @@ never_usage (Err (stop.Late picture need free)) e = absurd (cc)
 never_usage (Err stop.WriteFault) e = absurd (cc)
 never_usage (Err stop.NoMemory) e = absurd (cc)
 
--- the same object holds the same
+-- an unchanged object contains the same bytes
 pub unchanged : {K : Type 0} (held : K → Bytes) (x y : K) → y ≡ x → Appends (held x) (held y) []
 unchanged {K} held x y same =
     subst (λ (z : K). Appends (held x) (held z) []) (sym same) (Appends-nil (held x))
 
--- at any other status than those of a whole stream and of a failed write nothing is touched
+-- only a finished stream and a failed write change the output
 pub untouched_at : {K : Type 0} (x y : K) (answer : Result (Unit {0}) AuthorStop)
     → IfErr answer (λ why. why ≢ stop.WriteFault → y ≡ x)
     → author_status answer ≢ Done → author_status answer ≢ WriteFault → y ≡ x

@@ -1,4 +1,4 @@
--- From the answers of the parts of `author` to its status.
+-- From the answers of the steps of `author` to its status.
 use Rattle.std.proofs.Common.{◌≡◌, ◌≢◌, ◌≤◌, ℕ, Result, Ok, Err, refl, sym, ap, subst, arith}
 use Rattle.cdg_io.specs.Causes.{Rose, TellsFault}
 use Rattle.subcode_author.specs.declared.stops.AuthorStop.{AuthorStop}
@@ -12,11 +12,11 @@ use Rattle.cdg_cmd.specs.declared.status.Status.{Status}
 use Rattle.cdg_cmd.specs.declared.status.Status.TheVariants.{ReadFault, WriteFault}
 use Rattle.cdg_cmd.proofs.Quiet.{count, silent, told}
 
--- a count that did not change
+-- an unchanged count
 pub still : (fault status : Status) (n : ℕ) → status ≢ fault → IsTold fault (count n n) status
 still fault status n other = silent fault status n n (omega arith) other refl
 
--- the count of an input from the answer of the function that read it
+-- the count of an input, from the answer of the function that read it
 pub of_input : {A : Type 0} (fault status : Status) (n n' : ℕ) → TellsFault {T = A} fault n n' (Err status)
     → IsTold fault (count n n') status
 of_input {A} fault status n n' read = record {
@@ -37,7 +37,7 @@ sheet_not_cut left status why e = subst (IsSheetStop left) e why
 script_not_cut : (left : Bytes) (status : Status) → IsScriptStop left status → status ≢ WriteFault
 script_not_cut left status why e = subst (IsScriptStop left) e why
 
--- the cue sheet stopped it
+-- the cue sheet stopped the command
 pub told_at_sheet : {A : Type 0} (status : Status) (left : Bytes) (f f' t k : ℕ) → IsSheetStop left status
     → TellsFault {T = A} (ReadFault First) f f' (Err status)
     → TellsFaults (record { first = count f f'; second = count t t; out = count k k }) status
@@ -47,7 +47,7 @@ told_at_sheet status left f f' t k why read = record {
   out = still WriteFault status k (sheet_not_cut left status why);
 }
 
--- the script stopped it
+-- the script stopped the command
 pub told_at_script : {A B : Type 0} (sheet : B) (status : Status) (left : Bytes) (f f' t t' k : ℕ)
     → IsScriptStop left status → TellsFault {T = B} (ReadFault First) f f' (Ok sheet)
     → TellsFault {T = A} (ReadFault Second) t t' (Err status)

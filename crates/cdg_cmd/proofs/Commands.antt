@@ -10,7 +10,7 @@ same_command a b e = (cc)
 pub no_command : (a : Command) → ◌≡◌ {A = Option Command} None (Some a) → ⊥
 no_command a e = (cc)
 
--- what is made of the options that are found is the command that is made of the same
+-- the command from the options that were read is the command from the expected options
 pub made : {O : Type 0} (make : O → Command) (found wanted : O) (command : Command) → Some found ≡ Some wanted
     → command ≡ make wanted → Some (make found) ≡ Some command
 made make found wanted command e is = (cc)
@@ -21,7 +21,7 @@ none_made wanted e = (cc)
 apart : true ≡ false → ⊥
 apart e = (cc)
 
--- no words have no texts, and some words have some
+-- a list of words is empty if and only if the list of their texts is empty
 pub no_texts : {A : Type 0} (words : List (String A)) → true ≡ (length words == 0) → texts words ≡ []
 no_texts [] e = refl
 no_texts (w ∷ ws) e = (search rules)

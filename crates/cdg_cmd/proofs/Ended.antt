@@ -1,4 +1,4 @@
--- The end of an input is told as the answer of a call says.
+-- The end of an input is reported as the answer of a call says.
 use Rattle.std.proofs.Common.{◌≡◌}
 use Rattle.cdg_io.specs.Causes.{Count}
 use Rattle.cdg_io.specs.Change.{Input}

@@ -1,4 +1,4 @@
--- What `author` writes where only a picture can be refused.
+-- What `author` writes if only a picture can be refused.
 use Rattle.std.proofs.Common.{◌≡◌, ◌≢◌, ℕ, List, Result, Ok, Err, Some, None, IfSome, sym, subst, arith}
 use Rattle.cue_sheet.specs.CueSheet.{CueSheet}
 use Rattle.cue_sheet.specs.Grammar.{read_cue}
@@ -22,7 +22,7 @@ same_answer : {A E : Type 0} (r : Result A E) (a b : A) → r ≡ Ok a → r ≡
 same_answer r a b first second = (cc)
 
 module _ (sheet : CueSheet) (script : List Drawing) (lead_in audio : ℕ) (out : Change Bytes) where
-  -- what is put for the sheet and the script that two texts are read as
+  -- the output for the sheet and the script that the two texts mean
   pub put_for_texts : (cue text : List ℕ) (other : CueSheet) (lines : List Drawing)
       (answer : Result (Unit {0}) AuthorStop) → IsSheetText cue sheet → IsScriptText text script
       → IsSheetText cue other → IsScriptText text lines
@@ -86,7 +86,7 @@ module _ (sheet : CueSheet) (script : List Drawing) (lead_in audio : ℕ) (out :
       subst (λ (k : Status). WritesOrIsLate (disc_of sheet script lead_in audio) out k) (sym is)
       (of_answer answer same place.pictures place.room)
 
-  -- of a status that is not want of memory, or of that
+  -- of any status, also of `NoMemory`
   pub first_half : (left left' more more' : Bytes) (status : Status)
       → HavePlace (disc_of sheet script lead_in audio)
       → (status ≢ NoMemory → AuthorsWith lead_in audio (both left left' more more' out) status)

@@ -1,4 +1,4 @@
--- A picture that is told late cannot be ready.
+-- A picture that is reported as late cannot be ready.
 use Rattle.std.proofs.Common.{◌≡◌, ℕ, List, Result, Ok, Err, Some, None, IfSome, sym, subst}
 use Rattle.picture_script.specs.Script.{Drawing}
 use Rattle.picture_script.specs.ScriptGrammar.{read_script}
@@ -30,7 +30,7 @@ same_late script k n f picture need free same late =
     subst (λ (m : ℕ). IsLate script picture need m) third
     (subst (λ (m : ℕ). IsLate script picture m f) second (subst (λ (m : ℕ). IsLate script m n f) first late))
 
--- no input that stops the author is told as a late picture
+-- an input that stops `author` is not reported as a late picture
 no_sheet_late : (left : Bytes) (k n f : ℕ) → IsSheetStop left (Late k n f) → ⊥
 no_sheet_late left k n f why = why
 
@@ -38,7 +38,7 @@ no_script_late : (more : Bytes) (k n f : ℕ) → IsScriptStop more (Late k n f)
 no_script_late more k n f why = why
 
 module _ (lead_in audio : ℕ) (out : Change Bytes) where
-  -- the answer tells the first late picture of the script
+  -- the answer reports the first late picture of the script
   late_of : (sheet : CueSheet) (script : List Drawing) (picture need free : ℕ)
       (answer : Result (Unit {0}) AuthorStop) → IsPutFor (disc_of sheet script lead_in audio) out answer
       → author_status answer ≡ Late picture need free → IsLate script picture need free

@@ -1,4 +1,4 @@
--- Words and numbers after what stands.
+-- Words and numbers behind other text.
 use Rattle.std.proofs.Common.{◌≡◌, ℕ, List, ◌++◌, codes, decimal, ap, ap₂, ◌∙◌, append_assoc}
 use Rattle.cdg_cmd.specs.Line.{words_and_count}
 

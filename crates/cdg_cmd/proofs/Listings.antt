@@ -1,4 +1,4 @@
--- What is listed of streams, from what a player answers to them.
+-- The listings of streams, from the answers of a player.
 use Rattle.std.proofs.Common.{◌≡◌, ◌≢◌, ◌≤◌, ◌*◌, ℕ, Bool, true, List, [], ◌∷◌, length, Result, Ok, Err, Some, None, IfSome, sym, subst, inl, inr, arith, if◌then◌else◌, ◌==◌}
 use Rattle.raw_subcode.specs.declared.form.Form.{Form}
 use Rattle.raw_subcode.specs.declared.form.Form.TheVariants.{Raw}
@@ -39,14 +39,14 @@ pub spells_allowed : (command : Command) (words : List (List ℕ)) → Spells co
 spells_allowed command [] s = absurd s
 spells_allowed command (name ∷ options) s = s.1
 
--- an authored stream of a disc has no more blocks than are read
+-- an authored stream has no more blocks than a player reads
 pub authored_size : (sheet : CueSheet) (script : List Drawing) (lead_in audio : ℕ) (bytes : List ℕ)
     (packs : List (List ℕ)) → lead_in ≤ 450000 → program_blocks sheet audio ≤ 449999
     → IsAuthored (disc_of sheet script lead_in audio) bytes packs → length bytes ≤ most_units * 96
 authored_size sheet script lead_in audio bytes packs short few authored =
     omega (arith, authored.framing.size, short, few)
 
--- a player that put texts, as a status
+-- a player that wrote texts, as a status
 texts_back : (answer : Result Played PlayStop) (out : Change Bytes) (t : List ℕ)
     → PutsTexts answer out.before out.after t
     → GivesIfFound t out (play_status answer)
@@ -89,7 +89,7 @@ module _ (lead_in : ℕ) (left' more more' : Bytes) (out : Change Bytes) (status
       subst (λ (s : Status). GivesIfFound t out s) (sym l.status_is)
       (texts_back l.answer out t (puts l.answer l.taken l.did l.exactly.1))
 
-  -- the texts of streams of some kind
+  -- the CD-TEXT of streams of some kind
   pub strings_given : (form : Form) (left : Bytes)
       → (status ≢ NoMemory → Does (Text lead_in form) (both left left' more more' out) status)
       → ((all : List ℕ) → A all → (answer : Result Played PlayStop) (taken : List ℕ)
@@ -100,7 +100,7 @@ module _ (lead_in : ℕ) (left' more more' : Bytes) (out : Change Bytes) (status
   strings_given form (Some all) lists puts =
       λ is. unless_memory _ status (λ found. texts_of form all (lists found) (puts all is))
 
--- the lines of a sheet, whose strings are found or which has none
+-- the lines of a sheet that has strings or none
 pub lines_given : (sheet : CueSheet) (script : List Drawing) (form : Form) (lead_in audio : ℕ)
     (stream all lines : List ℕ) (answer : Result Played PlayStop) (out : Change Bytes)
     → ((whole : List Bool) → HasTextPacks sheet → HasText sheet

@@ -15,7 +15,7 @@ use Rattle.cdg_cmd.proofs.Quiet as quiet
 -- Faults
 
 module _ (f f' t t' k k' : ℕ) (first_later : f ≤ f') (second_later : t ≤ t') (out_later : k ≤ k') where
-  -- no fault is told
+  -- no fault is reported
   pub none : (status : Status) → status ≢ ReadFault First → status ≢ ReadFault Second → status ≢ WriteFault
       → f' ≡ f → t' ≡ t → k' ≡ k
       → TellsFaults (record { first = count f f'; second = count t t'; out = count k k' }) status
@@ -82,7 +82,7 @@ told_none f t k =
     none f f t t k k (omega arith) (omega arith) (omega arith) NoMemory (λ e. cc) (λ e. cc) (λ e. cc) refl
     refl refl
 
--- A merger never lacks memory, and its words were a form
+-- A merger needs no memory, and its words were valid
 
 whole_never : (good : Bool) (n : ℕ)
     → ((if good then Done else Damaged n) ≢ NoMemory) × ((if good then Done else Damaged n) ≢ Usage)

@@ -14,7 +14,7 @@ use Rattle.cdg_cmd.specs.declared.status.Status.{Status}
 use Rattle.cdg_cmd.specs.declared.status.Status.TheVariants.{Done, Damaged}
 use Rattle.cdg_cmd.proofs.WholeInputs.{both}
 
--- a merger that gave all back, as a status
+-- a merger that restored all packs, as a status
 given_back : (answer : Result Merged MergeStop) (out : Change Bytes) (blocks : ℕ) (text : List ℕ)
     → MergeRestores answer blocks out.before out.after text
     → GivesBack text out (merge_status answer)
@@ -49,7 +49,7 @@ module _ (law : GivesPacks) (lead_in : ℕ) (left' other' : Bytes) (out : Change
   merged_back (Some one) (Some two) does =
       λ blocks packs twice. merged one two blocks packs does twice
 
--- also where each is damaged
+-- two readings that are also both damaged
 pub repaired_back : ((lead_in blocks : ℕ) (packs : List (List ℕ)) (first second : List ℕ)
     → IsDamagedTwice lead_in blocks packs first second → IsReadTwice lead_in blocks packs first second)
     → (lead_in : ℕ) (left other : Bytes) (out : Change Bytes) (status : Status)

@@ -1,4 +1,4 @@
--- What a command that was performed did, and how what is known of it is put together.
+-- The effects of a command, and how the facts about them are combined.
 use Rattle.std.proofs.Common.{◌≡◌, ◌≢◌, ◌⊎◌, inl, inr, sym, subst}
 use Rattle.cdg_io.specs.Change.{Bytes, Change, Input}
 use Rattle.cdg_cmd.specs.Keeps.{MayWrite, TakesFirst, TakesNone, WantsMemory}
@@ -21,7 +21,7 @@ performed_as {S} {T} {K} {command} {named} {first} {second} {out} {before} {afte
     subst (λ (k : Command). Performs k first second out before after status) (sym is) performed
 
 module _ {S T K : Type 0} {command : Command} {before after : S × T × K} {status : Status} where
-  -- no memory is taken
+  -- the command needs no memory
   pub wants_none : status ≢ NoMemory → WantsMemory command before after status
   wants_none found = record {
     out = λ none. absurd (found none);
@@ -29,7 +29,7 @@ module _ {S T K : Type 0} {command : Command} {before after : S × T × K} {stat
     never = λ takes. found;
   }
 
-  -- all of it is taken before the inputs are read
+  -- all memory is allocated before the inputs are read
   pub wants_first : ¬ (TakesNone command)
       → (status ≡ NoMemory → (after.0 ≡ before.0) × (after.1 ≡ before.1) × (after.2 ≡ before.2))
       → WantsMemory command before after status
@@ -39,7 +39,7 @@ module _ {S T K : Type 0} {command : Command} {before after : S × T × K} {stat
     never = λ none. absurd (takes none);
   }
 
-  -- it may be taken later
+  -- memory may be allocated later
   pub wants_later : ¬ (TakesNone command) → ¬ (TakesFirst command) → (status ≡ NoMemory → after.2 ≡ before.2)
       → WantsMemory command before after status
   wants_later takes later untouched = record {
@@ -58,7 +58,7 @@ module _ {status : Status} where
   pub not_cut : ¬ (MayWrite status) → status ≢ WriteFault
   not_cut unwritten cut = unwritten (subst MayWrite (sym cut) tt)
 
--- a trial that wrote nothing lacked memory
+-- a trial that wrote nothing was out of memory
 pub only_lacking : (status : Status) → (status ≡ Done) ⊎ (status ≡ WriteFault) ⊎ (status ≡ NoMemory)
     → ¬ (MayWrite status) → status ≡ NoMemory
 only_lacking status (inl done) unwritten = absurd (not_done unwritten done)

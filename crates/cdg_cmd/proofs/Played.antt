@@ -82,7 +82,7 @@ moment_stop (Err play.TooLong) stops = tt
 moment_stop (Err (play.PastEnd blocks)) stops = tt
 moment_stop (Err (play.Text why)) stops = absurd stops
 
--- Where the output may not be written
+-- If the output may not be written
 
 may_write : (good : Bool) (n : ℕ) → MayWrite (if good then Done else Damaged n)
 may_write true n = tt
@@ -105,7 +105,7 @@ pub untouched : {K : Type 0} (answer : Result Played PlayStop) (status : Status)
 untouched answer status old new is same none =
     untouched_at answer old new same (subst (λ (s : Status). ¬ (MayWrite s)) is none)
 
--- A player lacks no memory but for texts
+-- A player needs memory only for texts
 
 whole_never : (good : Bool) (n : ℕ) → (if good then Done else Damaged n) ≢ NoMemory
 whole_never true n e = absurd (cc)
@@ -156,7 +156,7 @@ pub never_usage : (answer : Result Played PlayStop) (status : Status) → status
     → status ≢ Usage
 never_usage answer status is e = never_usage_at answer (sym is ∙ e)
 
--- Where memory is lacking for texts, all of a whole input was read, and its lead-in gives some
+-- If memory for texts is not found, the whole input was read and its lead-in has texts
 
 texts_if_known : (form : Form) (lead_in : ℕ) (left : Bytes)
     → IfSome left (λ all. IsListedBy (Err (play.Text fault.NoMemory)) form lead_in all)

@@ -1,4 +1,4 @@
--- From the answers of the parts of `press` to its status.
+-- From the answers of the steps of `press` to its status.
 use Rattle.std.proofs.Common.{◌≡◌, ◌≢◌, ◌≤◌, ℕ, List, [], Result, Ok, Err, OnOk, IfErr, refl, sym, ap, subst}
 use Rattle.std.specs.Io.KnownBytes.{Appends}
 use Rattle.cdg_io.specs.Causes.{Rose, TellsFault}
@@ -24,7 +24,7 @@ not_first left status why e = subst (IsFileStop left) e why
 not_cut : (left : Bytes) (status : Status) → IsFileStop left status → status ≢ WriteFault
 not_cut left status why e = subst (IsFileStop left) e why
 
--- the file stopped it
+-- the file stopped the command
 pub told_at_file : {A B : Type 0} (sheet : B) (status : Status) (left : Bytes) (f f' t t' k : ℕ)
     → IsFileStop left status → TellsFault {T = B} (ReadFault First) f f' (Ok sheet)
     → TellsFault {T = A} (ReadFault Second) t t' (Err status)
@@ -122,9 +122,9 @@ told_of_both sheet file answer status f f' t t' k k' is first second out =
     (told_at_end answer f f' t t' k k' first.later (first.same (λ e. cc)) second.later (second.same (λ e. cc))
     out.later out.rose out.same)
 
--- What is put
+-- The output
 
--- it is never this one
+-- no answer has the status `Usage`
 pub never_usage : (answer : Result (Unit {0}) PressStop) → press_status answer ≢ Usage
 never_usage (Ok done) e = absurd (cc)
 never_usage (Err (stop.PackTorn pack)) e = absurd (cc)
@@ -137,7 +137,7 @@ never_usage (Err (stop.LeadInShort need)) e = absurd (cc)
 never_usage (Err stop.NoMemory) e = absurd (cc)
 never_usage (Err stop.WriteFault) e = absurd (cc)
 
--- at any other status than those of a whole stream and of a failed write nothing is touched
+-- only a finished stream and a failed write change the output
 pub untouched_at : {K : Type 0} (x y : K) (answer : Result (Unit {0}) PressStop)
     → IfErr answer (λ why. why ≢ stop.WriteFault → y ≡ x)
     → press_status answer ≢ Done → press_status answer ≢ WriteFault → y ≡ x

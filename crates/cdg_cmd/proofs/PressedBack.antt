@@ -1,4 +1,4 @@
--- What is pressed comes back.
+-- Pressed packs are read back.
 use Rattle.std.proofs.Common.{◌≡◌, ◌≢◌, ℕ, ◌+◌, ◌*◌, ◌≤◌, List, Some, None, IfSome, subst, arith}
 use Rattle.std.specs.List.{concat}
 use Rattle.disc_time.specs.Counts.{pause_blocks}
@@ -20,7 +20,7 @@ use Rattle.cdg_cmd.proofs.PressedShown.{FilesAreShown, file_shown}
 use Rattle.cdg_cmd.proofs.SecondHalf.{GivesNoneBad, GivesPacks, converted_back, packs_written}
 use Rattle.cdg_cmd.proofs.WholeInputs.{both}
 
--- what the laws of the layers below say
+-- the laws of the crates below
 pub record PressesComeBack : Type 0 where
   pub stream : (form : Form) (lead_in : ℕ) (others : List ℕ) (press : DamagedPress form lead_in others)
       → IsDamagedStream form lead_in (program_blocks press.sheet press.audio) press.packs others

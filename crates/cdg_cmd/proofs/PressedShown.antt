@@ -1,4 +1,4 @@
--- A screen of a pressed stream shows its file.
+-- A screen of a pressed stream is the screen of its file.
 use Rattle.std.proofs.Common.{◌≡◌, ◌≢◌, ◌==◌, ℕ, ◌+◌, ◌-◌, ◌*◌, ◌/◌, ◌≤◌, List, length, drop, length-drop, ap, sym, subst, ◌∙◌, arith, Some, Result, Ok, Err, if◌then◌else◌}
 use Rattle.std.proofs.Math.Nat.{div-mul-le_self}
 use Rattle.std.proofs.lemmas.List.{length-map}
@@ -25,7 +25,7 @@ use Rattle.cdg_cmd.specs.declared.status.Status.TheVariants.{Done, Damaged, NoMe
 use Rattle.cdg_cmd.proofs.WholeInputs.{both, unless_memory}
 use Rattle.cdg_cmd.specs.Unpresses.{PutsFilePicture}
 
--- how many program symbols some bytes have
+-- the number of program symbols in some bytes
 program_length : (form : Form) (bytes : List ℕ) (lead_in : ℕ)
     → length (program_symbols form bytes lead_in) ≡ 96 * (length bytes / unit_size form - lead_in)
 program_length form bytes lead_in =
@@ -41,7 +41,7 @@ program_length form bytes lead_in =
     (units_of (unit_size form) (length bytes / unit_size form) bytes) (block_of form)
     ∙ length-units_of (unit_size form) (length bytes / unit_size form) bytes))
 
--- what the law of the layer below says
+-- the law of the crate below
 pub record FilesAreShown : Type 0 where
   pub text : (form : Form) (lead_in time : ℕ) (others : List ℕ) (press : DamagedPress form lead_in others)
       (text : List ℕ) (bad : ℕ) → time ≤ press.audio

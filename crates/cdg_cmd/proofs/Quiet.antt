@@ -1,4 +1,4 @@
--- Counts of faults at a status: which one rose.
+-- Fault counts at a status: which one rose.
 use Rattle.std.proofs.Common.{◌≡◌, ◌≢◌, ◌≤◌, ℕ, refl}
 use Rattle.cdg_io.specs.Causes.{Rose}
 use Rattle.cdg_io.specs.Change.{Change}
@@ -10,11 +10,11 @@ use Rattle.cdg_cmd.specs.declared.status.Status.TheVariants.{Usage, ReadFault, W
 abbrev pub count : {A : Type 0} → A → A → Change A
 count before after = record { before = before; after = after }
 
--- this fault is told
+-- a status that reports this fault
 pub told : (fault : Status) (n n' : ℕ) → n ≤ n' → Rose n n' → IsTold fault (count n n') fault
 told fault n n' later rose = record { later = later; rose = λ e. rose; same = λ other. absurd (other refl) }
 
--- another status is told
+-- a status that reports something else
 pub silent : (fault status : Status) (n n' : ℕ) → n ≤ n' → status ≢ fault → n' ≡ n
     → IsTold fault (count n n') status
 silent fault status n n' later other same =

@@ -75,7 +75,7 @@ told answer status f f' t t' k k' is first second out =
     (faults f f' t t' k k' first.later second.later out.later answer first.rose first.same second.rose
     second.same out.rose out.same)
 
--- The rest is read only after a checkpoint
+-- The rest is read only after a checkpoint was accepted
 module _ {T : Type 0} (x y : T) (at : ℕ) (first : Input) (file : List ℕ) where
   read_file : (answer : Result Resumed ResumeStop) → answer ≢ Err resume.FirstFault
       → IsAcceptedBy (Ok tt) at file
@@ -120,7 +120,7 @@ module _ {T : Type 0} (x y : T) (at : ℕ) (first : Input) (file : List ℕ) whe
   reads_second (Err (resume.PastEnd blocks)) same accepted taken end told =
       read_file (Err (resume.PastEnd blocks)) (λ e. cc) accepted taken end told
 
--- Where the output may not be written
+-- If the output may not be written
 
 may_write : (good : Bool) (n : ℕ) → MayWrite (if good then Done else Damaged n)
 may_write true n = tt
@@ -145,7 +145,7 @@ pub untouched : {K : Type 0} (answer : Result Resumed ResumeStop) (status : Stat
 untouched answer status old new is same none =
     untouched_at answer old new same (subst (λ (s : Status). ¬ (MayWrite s)) is none)
 
--- It never lacks memory, and its words were a form
+-- A resumed call needs no memory, and its words were valid
 
 whole_never : (good : Bool) (n : ℕ)
     → ((if good then Done else Damaged n) ≢ NoMemory) × ((if good then Done else Damaged n) ≢ Usage)

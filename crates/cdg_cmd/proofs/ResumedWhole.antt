@@ -1,4 +1,4 @@
--- From a checkpoint what stands is shown, and the screen of the whole stream where its first part was saved.
+-- A resumed call shows the standing of the checkpoint, and the screen of the whole stream if its first part was saved.
 use Rattle.std.proofs.Common.{◌≡◌, ◌≢◌, ◌==◌, ℕ, ◌≤◌, ◌-◌, ◌*◌, ◌/◌, ◌%◌, List, [], ◌∷◌, ◌++◌, length, refl, sym, ap, subst, ◌∙◌, arith, length-append, Some, None, Result, Ok, Err, IfErr, IfSome, if◌then◌else◌}
 use Rattle.std.specs.Prelude.{IsOk, nat_lt}
 use Rattle.std.specs.List.{AllByRecursion}
@@ -35,7 +35,7 @@ use Rattle.cdg_cmd.specs.declared.status.Status.{Status}
 use Rattle.cdg_cmd.specs.declared.status.Status.TheVariants.{Done, Damaged}
 use Rattle.cdg_cmd.proofs.WholeInputs.{both}
 
--- what the laws on checkpoints say
+-- the laws about checkpoints
 pub record Laws : Type 0 where
   pub accepted : (lead_in : ℕ) (bytes file : List ℕ) (pumped : Pumped) → IsFirstPart lead_in bytes
       → IsSaved lead_in bytes pumped file
@@ -57,7 +57,7 @@ pub record Laws : Type 0 where
       → IsScreenAt (moment Raw lead_in time) bytes other other_bad
       → (text ≡ other) × (bad ≡ other_bad)
 
--- ---- what was saved
+-- ---- the saved file
 
 saved_of : (lead_in : ℕ) (bytes file taken : List ℕ) (left' : Bytes) (answer : Result Pumped PumpStop)
     → lead_in ≤ 450000
@@ -114,7 +114,7 @@ read_is file read (Some rest) size takes ends =
     taken_all file (Some rest) read takes
     (ends (omega (arith, size, ap length takes, length-append read rest)))
 
--- the file was accepted, and the rest of the stream was taken
+-- the file was accepted, and the rest of the stream was consumed
 pub record GoesOnWith (file : List ℕ) (at : ℕ) (rest : List ℕ) (more' : Bytes) (out : Change Bytes)
     (status : Status) : Type 0 where
   pub answer : Result Resumed ResumeStop
@@ -179,7 +179,7 @@ gone_on at file rest left' more' out status answered d is_file not_later =
     (of_answer at file rest d.file left' more' out is_file not_later d.answer
     (subst IsAnswered d.status_is answered) d.taken d.whole d.accepted d.goes_on d.exactly)
 
--- ---- what is put
+-- ---- the output
 
 puts : (file : List ℕ) (at : ℕ) (rest taken : List ℕ) (more' : Bytes) (out : Change Bytes)
     (answer : Result Resumed ResumeStop) → IsAnswered (resume_status answer)
@@ -306,7 +306,7 @@ module _ (laws : Laws) (lead_in at : ℕ) (stream : List ℕ) (left left2 : Byte
 
 -- ---- the whole stream
 
--- the status is that of a player of the whole stream
+-- a resumed call has the status of a player of the whole stream
 played_status : (answer : Result Resumed ResumeStop) (file rest : List ℕ) (at : ℕ)
     → IsAnswered (resume_status answer) → IsResumedBy answer (checkpoint_in file) at (length rest)
     → resume_status answer ≡ play_status (as_played answer)
@@ -320,7 +320,7 @@ played_status (Err (resume.Torn block)) file rest at answered exactly = refl
 played_status (Err resume.TooLong) file rest at answered exactly = refl
 played_status (Err (resume.PastEnd blocks)) file rest at answered exactly = refl
 
--- no call that goes on from a checkpoint lists texts
+-- no resumed call lists texts
 moment_stop : (answer : Result Resumed ResumeStop) → IfErr (as_played answer) IsMomentStop
 moment_stop (Ok resumed) = tt
 moment_stop (Err resume.FirstFault) = tt

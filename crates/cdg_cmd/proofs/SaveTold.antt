@@ -16,7 +16,7 @@ untouched_at (Err pump.WriteFault) old new same none = absurd (none tt)
 untouched_at (Err (pump.Torn unit)) old new same none = same (λ e. cc)
 untouched_at (Err pump.TooLong) old new same none = same (λ e. cc)
 
--- where nothing may be written nothing was
+-- if the output may not be written, it is unchanged
 pub untouched : {K : Type 0} (answer : Result Pumped PumpStop) (status : Status) (old new : K)
     → status ≡ pump_status answer
     → IfErr answer (λ stop. stop ≢ pump.WriteFault → new ≡ old) → ¬ (MayWrite status) → new ≡ old

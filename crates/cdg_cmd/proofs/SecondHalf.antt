@@ -1,4 +1,4 @@
--- What damage of at most two symbols a word leaves of a stream.
+-- Streams with at most two wrong symbols in each word.
 use Rattle.std.proofs.Common.{◌≡◌, ◌≢◌, ◌≤◌, ℕ, ◌-◌, ◌*◌, List, ◌++◌, length, map, replicate, Result, Ok, Err, Some, None, IfSome, ◌==◌, if◌then◌else◌, sym, ap, subst, ◌∙◌, arith}
 use Rattle.std.proofs.lemmas.List.{append-nil}
 use Rattle.std.specs.List.{concat}
@@ -41,7 +41,7 @@ GivesNoneBad = (form : Form) (lead_in blocks : ℕ) (packs : List (List ℕ)) (b
     → IsDamagedStream form lead_in blocks packs bytes
     → IsConverted form lead_in bytes text bad → bad ≡ 0
 
--- a call that shows a moment at which a picture stands gives that picture
+-- a call that shows the screen at a time of a picture gives this picture
 abbrev pub GivesPictures : Type 0
 GivesPictures = (form : Form) (lead_in time : ℕ) (all : List ℕ) (left : Bytes) (out : Change Bytes)
     (answer : Result Played PlayStop) (taken : List ℕ) (script : List Drawing) (k : ℕ)
@@ -66,7 +66,7 @@ module _ (law : Recovers)
       ∙ ap bad_count (found_packs form lead_in blocks packs bytes text bad law stream converted)
       ∙ none (all_packs form blocks packs)
 
--- a player that gave all back, as a status
+-- a player that restored all packs, as a status
 pub given_back : (answer : Result Played PlayStop) (out : Change Bytes) (text : List ℕ)
     → Restores answer out.before out.after text
     → GivesBack text out (play_status answer)
@@ -79,7 +79,7 @@ given_back (Err play.TooLong) out text r = absurd r
 given_back (Err (play.PastEnd blocks)) out text r = absurd r
 given_back (Err (play.Text why)) out text r = absurd r
 
--- a player that gave a picture, as a status
+-- a player that showed a picture, as a status
 picture_put : (script : List Drawing) (k : ℕ) (answer : Result Played PlayStop) (out : Change Bytes)
     → GivesPicture script k answer out.before out.after
     → PutsPicture script k out (play_status answer)
@@ -130,7 +130,7 @@ module _ (form : Form) (lead_in : ℕ) (left' more more' : Bytes) (out : Change 
   shown_back gives at (Some all) does = λ script k scheduled held.
       unless_memory _ status (λ found. shown gives at all script k (does found) scheduled held)
 
--- the packs of a stream as the words of its form
+-- the packs of a stream, as the words of its form
 pub packs_written : (form : Form) (blocks : ℕ) (packs : List (List ℕ)) → length packs ≡ whole_packs blocks
     → 2 ≤ blocks
     → all_packs form blocks packs ≡ written_packs form packs

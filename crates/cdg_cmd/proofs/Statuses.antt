@@ -1,4 +1,4 @@
--- What no fault leaves.
+-- Statuses at which nothing may be written.
 use Rattle.std.proofs.Common.{◌≢◌, refl, sym, subst}
 use Rattle.cdg_cmd.specs.Faults.{IsAnswered}
 use Rattle.cdg_cmd.specs.Keeps.{MayWrite}
@@ -19,7 +19,7 @@ answered (ReadFault First) usage first second write = first refl
 answered (ReadFault Second) usage first second write = second refl
 answered WriteFault usage first second write = write refl
 
--- where the output may not be written
+-- if the output may not be written, the status is not `Done`
 pub not_done : (status : Status) → ¬ (MayWrite status) → status ≢ Done
 not_done status none e = none (subst MayWrite (sym e) tt)
 

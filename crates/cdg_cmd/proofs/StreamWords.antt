@@ -1,4 +1,4 @@
--- What the words after the name of a command spell.
+-- The options that the words after the name of a command mean.
 use Rattle.std.proofs.Common.{◌≡◌, ◌≢◌, ◌≤◌, ◌<◌, ◌^◌, ℕ, List, [], ◌∷◌, codes, bytes_eq, false, true, refl, sym, ap, ◌∙◌}
 use Rattle.cdg_workload.specs.Script.{most_generated}
 use Rattle.disc_time.specs.Counts.{most_lead_in, time_count}

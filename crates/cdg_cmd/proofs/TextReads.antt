@@ -25,7 +25,7 @@ use Rattle.cdg_cmd.specs.declared.status.Refusal.TheVariants.{TooLong}
 use Rattle.cdg_cmd.specs.declared.status.Status.TheVariants.{Done, Damaged, Usage, Refused, Late, ReadFault, WriteFault, NoMemory}
 use Rattle.cdg_cmd.proofs.TextStops.{known_within, taken_at_fault}
 
--- what is known where an input was not read whole
+-- the facts about an input that was not read completely
 pub record IsUnread {S : Type 0} (source : Source S) (before after : S) (stop : ReadStop) : Type 0 where
   pub long : stop ≡ read.TooLong → IfSome (source.left before) (λ text. most_text_bytes < length text)
   pub one_more : stop ≡ read.TooLong
@@ -34,7 +34,7 @@ pub record IsUnread {S : Type 0} (source : Source S) (before after : S) (stop : 
   pub needed : stop ≡ read.NoMemory → IfSome (source.left before) (λ text. 0 < length text)
   pub cut : stop ≡ read.Failed → StopsAtFault source.left source.faults most_text_bytes before after
 
--- the same from the clauses of `read_whole`
+-- the same facts, from the clauses of `read_whole`
 pub unread : {T S : Type 0} (source : Source S) (before after : S) (stop : ReadStop)
     → (IsErrOf {T = T} (Err stop) read.TooLong
     → IfSome (source.left before) (λ text. most_text_bytes < length text))
@@ -54,13 +54,13 @@ unread source before after stop long one_more lacking needed cut = record {
   cut = λ e. cut (ap Err e);
 }
 
--- memory is needed for a text that is not empty, and not too long
+-- a text that is neither empty nor too long needs memory
 needs_memory : (left : Bytes) → IfSome left (λ text. 0 < length text)
     → IfSome left (λ text. length text ≤ most_text_bytes) → IfSome left NeedsMemory
 needs_memory None some within = tt
 needs_memory (Some text) some within = (some, within)
 
--- and then it is not too long
+-- a text that needs memory is not too long
 is_within : (left : Bytes) → IfSome left NeedsMemory → IfSome left (λ text. length text ≤ most_text_bytes)
 is_within None needed = tt
 is_within (Some text) needed = needed.1
@@ -97,7 +97,7 @@ module _ {S : Type 0} (source : Source S) (before after : S) where
   takes_unread which stop status is u =
       subst (TakesAtStop (change source.left before after)) (sym is) (takes which stop u)
 
--- the end of an input that was not read whole
+-- the end of an input that was not read completely
 text_ends_at : (which : Which) (stop : ReadStop) (input : Input)
     → ToldUnless {T = ℕ} is_before_text_end (Err stop) input.ends.before input.ends.after
     → StopEnds input (read_status which stop)
@@ -112,7 +112,7 @@ pub text_ends : (which : Which) (stop : ReadStop) (status : Status) (input : Inp
 text_ends which stop status input is told =
     subst (StopEnds input) (sym is) (text_ends_at which stop input told)
 
--- What holds where an input gives no text, of the cue sheet, of the script and of the file
+-- Stops at an input of which no text was read: the cue sheet, the script and the file
 
 second_is_not_first : ◌≡◌ {A = Which} Second First → ⊥
 second_is_not_first e = (cc)
@@ -156,7 +156,7 @@ no_file left Usage why = absurd why
 no_file left (Late picture need free) why = absurd why
 no_file left WriteFault why = absurd why
 
--- A text that is read as a sheet is not empty, so memory is needed for it.
+-- A text that is read as a sheet is not empty, so it needs memory.
 
 no_empty_sheet : (sheet : CueSheet) → read_cue [] ≡ Ok sheet → ⊥
 unfolding read_on lines_in without_mark
@@ -166,7 +166,7 @@ sheet_is_some : (text : List ℕ) (sheet : CueSheet) → read_cue text ≡ Ok sh
 sheet_is_some [] sheet reads = absurd (no_empty_sheet sheet reads)
 sheet_is_some (b ∷ rest) sheet reads = omega arith
 
--- the text of an input that tells its bytes is what it held
+-- the text that was read is the text of the input, if its bytes are known
 of_held : (left : Bytes) (text : List ℕ) (P : List ℕ → Type 0) → IfSome left (λ all. text ≡ all) → P text
     → IfSome left P
 of_held None text P held holds = tt
@@ -182,12 +182,12 @@ module _ (left : Bytes) (text : List ℕ) (within : length text ≤ most_text_by
   sheet_stop sheet.NoMemory answer =
       of_held left text NeedsMemory held (sheet_is_some text answer.0 answer.1, within)
 
-  -- why a text that was read gives no sheet
+  -- the reason why a text that was read gives no sheet
   pub refused_sheet : (stop : CueStop) (status : Status) → status ≡ sheet_status stop
       → IsCueAnswer (read_cue text) (Err stop) → IsSheetStop left status
   refused_sheet stop status is answer = subst (IsSheetStop left) (sym is) (sheet_stop stop answer)
 
--- the same status ends the call that made it
+-- the same status ends the outer call
 pub same_stop : {A B : Type 0} (fault status : Status) (f f' : ℕ) → TellsFault {T = A} fault f f' (Err status)
     → TellsFault {T = B} fault f f' (Err status)
 same_stop fault status f f' told = record {
@@ -196,7 +196,7 @@ same_stop fault status f f' told = record {
   same = λ other. told.same (λ e. other (ap Err (cc)));
 }
 
--- The fault of a read is told as that of its input.
+-- The fault of a read is reported as the fault of its input.
 
 read_fault : {A B : Type 0} (which : Which) (stop : ReadStop) (f f' : ℕ)
     → TellsFault {T = A} read.Failed f f' (Err stop)

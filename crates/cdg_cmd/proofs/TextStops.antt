@@ -1,4 +1,4 @@
--- Why a text is refused: one reason, and none where its grammar reads it.
+-- Why a text is refused: there is one reason, and none if its grammar reads it.
 use Rattle.std.proofs.Common.{◌≡◌, ◌⊎◌, ◌<◌, ◌≤◌, ℕ, List, length, Result, Ok, Err, None, Some, IfSome, refl, sym, ap, ◌∙◌, inl, inr, arith, length-append}
 use Rattle.std.specs.Io.KnownBytes.{Consumes, IsAtEnd}
 use Rattle.std.proofs.KnownBytes.{Consumes-kept}
@@ -16,7 +16,7 @@ use Rattle.cdg_cmd.specs.declared.status.Refusal.TheVariants.{Torn, TooLong, Pas
 use Rattle.cdg_cmd.specs.declared.status.Status.{Status}
 use Rattle.cdg_cmd.specs.declared.status.Status.TheVariants.{Done, Damaged, Usage, Refused, Late, ReadFault, WriteFault, NoMemory}
 
--- what was taken before a read failed is all that was taken
+-- the bytes before a failed read are all that was consumed
 pub taken_at_fault : {S : Type 0} (left : S → Bytes) (faults : S → ℕ) (most n : ℕ) (before after : S)
     → most < n
     → StopsAtFault left faults most before after → ConsumesBelow (left before) (left after) n
@@ -30,7 +30,7 @@ within (Some text) None taken most took end few = absurd took
 within (Some text) (Some rest) taken most took end few =
     omega (arith, few, ap length took, length-append taken rest, ap length end)
 
--- an input whose end came within the limit is not too long
+-- an input that ended within the limit is not too long
 pub known_within : {S : Type 0} (left : S → Bytes) (most : ℕ) (before after : S)
     → ReadsWithin left most before after → IfSome (left before) (λ text. length text ≤ most)
 known_within left most before after read =
@@ -165,7 +165,7 @@ script_status text (ReadFault which) s = inl tt
 script_status text WriteFault s = absurd s
 script_status text NoMemory s = inl tt
 
--- at a text that its grammar reads
+-- a text that its grammar reads is not refused
 pub sheet_stopped : (text : List ℕ) (sheet : CueSheet) (status : Status) → IsSheetText text sheet
     → IsSheetStop (Some text) status
     → IsStopped status

@@ -1,4 +1,4 @@
--- What is written of a whole file of packs.
+-- What is written for a whole file of packs.
 use Rattle.std.proofs.Common.{◌≡◌, ◌≢◌, ℕ, List, Result, Ok, Err, Some, None, IfSome, sym, ◌∙◌}
 use Rattle.std.specs.Io.KnownBytes.{Appends}
 use Rattle.cdg_io.specs.declared.pumping.Pumped.{Pumped}

@@ -1,4 +1,4 @@
--- What is told of faults, of all objects of a call.
+-- The faults that a status reports, of all objects of a call.
 use Rattle.std.proofs.Common.{◌≡◌, ◌≢◌, ◌⊎◌, ℕ, Result, Ok, Err, OnOk, OnErr, refl, inl, inr, arith}
 use Rattle.std.specs.Io.KnownBytes.{Appends}
 use Rattle.cdg_io.specs.Causes.{HasCause}
@@ -15,7 +15,7 @@ use Rattle.cdg_cmd.proofs.Quiet.{count, silent}
 still : (fault status : Status) (n : ℕ) → status ≢ fault → IsTold fault (count n n) status
 still fault status n other = silent fault status n n (omega arith) other refl
 
--- the words were no form
+-- the words were not valid
 pub unchanged : (f t k : ℕ)
     → TellsFaults (record { first = count f f; second = count t t; out = count k k }) Usage
 unchanged f t k = record {
@@ -62,7 +62,7 @@ pub of_trial : (status : Status) (f t : ℕ) (out : Change ℕ)
 of_trial status f t out is told =
     of_none status f t out (tries_not_read status is).0 (tries_not_read status is).1 told
 
--- the line of a status was told
+-- the error line of a status was written
 pub tells : {E F : Type 0} (held : E → Bytes) (faults : E → ℕ) (before after : E) (status : Status)
     (result : Result (Unit {0}) F) → OnOk result (Appends (held before) (held after) (error_line status))
     → OnErr result (AppendsPrefix (held before) (held after) (error_line status))

@@ -1,4 +1,4 @@
--- A stage that turns each block, from the run of its pump.
+-- A stage that converts each block, from the run of its pump.
 use Rattle.std.proofs.Common.{◌≡◌, ℕ, zero, suc, ◌+◌, ◌*◌, ◌/◌, ◌%◌, ◌<◌, ◌≤◌, List, [], ◌∷◌, ◌++◌, length, map, take, drop, refl, sym, ap, ap₂, ◌∙◌, subst, arith, Some, Result, Ok, Err}
 use Rattle.std.specs.Prelude.{slice_index_or, slice_index}
 use Rattle.std.specs.List.{concat, flat_map}
@@ -30,7 +30,7 @@ map_gives : {S : Type 0} (f : List ℕ → List ℕ) (s : S) (xs : List (List �
 map_gives f s [] = refl
 map_gives f s (x ∷ xs) = ap (λ (l : List ℕ). f x ++ l) (map_gives f s xs)
 
--- A turn of blocks: each 96 bytes become 96 bytes.
+-- `f` converts blocks: it turns each 96 bytes into 96 bytes.
 pub record IsTurn (turned : List ℕ → List ℕ → Type 0) (f : List ℕ → List ℕ) : Type 0 where
   pub size : (u : List ℕ) → length (f u) ≡ 96
   pub each : (u : List ℕ) → length u ≡ 96 → turned u (f u)
@@ -42,7 +42,7 @@ module _ (turned : List ℕ → List ℕ → Type 0) (f : List ℕ → List ℕ)
   after : (u rest : List ℕ) → drop 96 (f u ++ rest) ≡ rest
   after u rest = subst (λ k. drop k (f u ++ rest) ≡ rest) (turn.size u) (drop-append_seam (f u) rest)
 
-  -- the parts of the text are the turned units
+  -- the parts of the text are the converted blocks
   text_parts : (n : ℕ) (bytes : List ℕ)
       → parts n 96 (flat_map f (units_of 96 n bytes)) ≡ map f (units_of 96 n bytes)
   text_parts zero bytes = refl
@@ -112,7 +112,7 @@ module _ (turned : List ℕ → List ℕ → Type 0) (f : List ℕ → List ℕ)
       streams_stop turning (turner f) moved taken stop stop (omega arith) (told stop)
       (λ bytes n few whole. (record { units = n }, says moved.state.before bytes n whole)) p
 
--- the two turns
+-- the two conversions
 
 at : (f : ℕ → ℕ) (n : ℕ) → n < 96 → slice_index (map f (below 96)) n ≡ f n
 at f n lt = get_or-map-range_with_len f 0 96 n n 0 lt (omega arith)

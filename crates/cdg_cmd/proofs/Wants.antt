@@ -1,4 +1,4 @@
--- When it is said that no memory was found.
+-- When a status reports that no memory was found.
 use Rattle.std.proofs.Common.{◌≡◌, ◌≢◌, ◌≤◌, ◌==◌, ◌⊎◌, inl, inr, ℕ, Bool, true, false, Result, Ok, Err, refl, sym, ap, subst, arith, if◌then◌else◌}
 use Rattle.cdg_io.specs.Causes.{Rose, TellsFault}
 use Rattle.cdg_io.specs.declared.whole.ReadStop.{ReadStop}
@@ -22,14 +22,14 @@ use Rattle.cdg_cmd.specs.declared.status.Status.{Status}
 use Rattle.cdg_cmd.specs.declared.status.Status.TheVariants.{Done, Damaged, WriteFault, NoMemory}
 use Rattle.cdg_cmd.proofs.Quiet.{count, silent, told}
 
--- the answer was another one, and so was the status
+-- neither the answer nor the status reports it
 others : {A E : Type 0} (lack : E) (answer : Result A E) (status : Status) (n n' : ℕ)
     → TellsFault lack n n' answer → answer ≢ Err lack → status ≢ NoMemory
     → IsTold NoMemory (count n n') status
 others lack answer status n n' noted other silence =
     silent NoMemory status n n' noted.later silence (noted.same other)
 
--- of a command that takes no memory
+-- a command that needs no memory
 pub takes_none : (status : Status) (n : ℕ) → status ≢ NoMemory → IsTold NoMemory (count n n) status
 takes_none status n silence = silent NoMemory status n n (omega arith) silence refl
 
@@ -41,12 +41,12 @@ pub generates : (status : Status) (n : ℕ) → (status ≡ Done) ⊎ (status �
     → IsTold NoMemory (count n n) status
 generates status n is = takes_none status n (not_lacking status is)
 
--- the answer says that there was none
+-- the answer reports it
 lacked : {A E : Type 0} (lack : E) (n n' : ℕ) → TellsFault {T = A} lack n n' (Err lack)
     → IsTold NoMemory (count n n') NoMemory
 lacked lack n n' noted = told NoMemory n n' noted.later (noted.rose refl)
 
--- the status that ended a call which read a text
+-- the status that ended the reading of a text
 pub stopped : {A : Type 0} (status : Status) (n n' : ℕ) → TellsFault {T = A} NoMemory n n' (Err status)
     → IsTold NoMemory (count n n') status
 stopped {A} status n n' told = record {
@@ -55,7 +55,7 @@ stopped {A} status n n' told = record {
   same = λ other. told.same (λ e. other (cc));
 }
 
--- memory was found before anything was done, or was not
+-- memory was allocated before anything else was done, or was not found
 module _ {A E : Type 0} (n n' : ℕ) where
   pub found_first : (lack : E) (value : A) (status : Status) → TellsFault lack n n' (Ok value)
       → status ≢ NoMemory → IsTold NoMemory (count n n') status
@@ -67,16 +67,16 @@ module _ {A E : Type 0} (n n' : ℕ) where
   lacked_first lack stop is noted =
       told NoMemory n n' noted.later (noted.rose (ap (λ (e : E). Err e) is))
 
-  -- the count is as it was where memory was found
+  -- if memory was found, its fault count is unchanged
   pub kept_first : (lack : E) (value : A) → TellsFault lack n n' (Ok value) → n' ≡ n
   kept_first lack value noted = noted.same (λ e. cc)
 
--- of a call that was reached with the count as it was
+-- a later call, before which the count was unchanged
 pub reached : (status : Status) (n n' n'' : ℕ) → n' ≡ n → IsTold NoMemory (count n' n'') status
     → IsTold NoMemory (count n n'') status
 reached status n n' n'' same counted = subst (λ (m : ℕ). IsTold NoMemory (count m n'') status) same counted
 
--- a count that was as it was after a text was read
+-- the count is unchanged after a text was read
 pub as_it_was : {A : Type 0} (text : A) (n n' : ℕ) → TellsFault {T = A} NoMemory n n' (Ok text) → n' ≡ n
 as_it_was text n n' told = told.same (λ e. cc)
 
@@ -84,13 +84,13 @@ pub found : {A : Type 0} (text : A) (n n' : ℕ) → n' ≡ n → TellsFault {T 
 found text n n' same =
     record { later = omega (arith, same); rose = λ e. absurd (cc); same = λ other. same }
 
--- of a count by another name
+-- the same count under another name
 pub counted_from : {A : Type 0} (status : Status) (n m n' : ℕ) → n ≡ m
     → TellsFault {T = A} NoMemory n n' (Err status) → TellsFault {T = A} NoMemory m n' (Err status)
 counted_from {A} status n m n' is told =
     subst (λ (k : ℕ). TellsFault {T = A} NoMemory k n' (Err status)) is told
 
--- a stop that was noted, and the status that it comes to
+-- the status of a stop that was counted
 module _ {A : Type 0} (n n' : ℕ) (later : n ≤ n') where
   is_lacked : Rose n n' → TellsFault {T = A} NoMemory n n' (Err NoMemory)
   is_lacked rose = record { later = later; rose = λ e. rose; same = λ other. absurd (other refl) }
@@ -142,7 +142,7 @@ module _ {A : Type 0} (n n' : ℕ) (later : n ≤ n') where
       (script_at stop (λ e. noted.rose (ap (λ (s : ScriptStop). Err s) e))
       (λ other. noted.same (λ e. other (cc))))
 
--- of the answers to a sheet with a script or a file, and of a list of texts
+-- the answers to a sheet with a script or a file, and to a list of texts
 
 module _ (n n' : ℕ) where
   authored : (answer : Result (Unit {0}) AuthorStop) → TellsFault author.NoMemory n n' answer

@@ -1,4 +1,4 @@
--- Calls on known bytes, and where memory may be wanting.
+-- Calls on known bytes, and where memory may be missing.
 use Rattle.std.proofs.Common.{◌≢◌}
 use Rattle.cdg_cmd.specs.Answer.{OnDone}
 use Rattle.cdg_io.specs.Change.{Bytes, Change}

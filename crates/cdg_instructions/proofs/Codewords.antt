@@ -22,7 +22,7 @@ symbols-append (x ∷ xs) ys small small' = (small.0, symbols-append xs ys small
 sum_below : (a b : ℕ) → a < 64 → b < 64 → bit_xor a b < 64
 sum_below a b x y = xor_lt 6 a b x y
 
--- The two parity symbols after one symbol more, and the four.
+-- The two parity symbols after one more symbol, and the four parity symbols.
 first_next : ℕ × ℕ → ℕ → ℕ × ℕ
 first_next r s =
     (bit_xor r.1 (product (alpha_power 6) (bit_xor r.0 s)), product (alpha_power 1) (bit_xor r.0 s))
@@ -147,7 +147,7 @@ module _ (a b : ℕ) (body : List ℕ) (a_lt : a < 64) (b_lt : b < 64) (size : l
       let rest : List ℕ = listed (parity zeros first) in
       ap (λ xs. a ∷ b ∷ xs) (ap (λ n. take n (body ++ rest)) (sym size) ∙ take-append_seam body rest)
 
--- each message of eighteen symbols is that of a codeword
+-- every message of eighteen symbols has a codeword
 pub has_codeword : (symbols : List ℕ) → length symbols ≡ 18 → AreSymbols symbols
     → (word : List ℕ) × IsCodeword word × (message_of word ≡ symbols)
 has_codeword [] size small = absurd (omega (arith, size))

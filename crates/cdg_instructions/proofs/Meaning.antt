@@ -1,4 +1,4 @@
--- What a word means, computed.
+-- The computed meaning of a word.
 use Rattle.std.proofs.Common.{◌≡◌, ◌≢◌, ◌<◌, ◌∙◌, ℕ, zero, suc, Bool, true, false, true≢false, Contains, ◌==◌, if◌then◌else◌, List, get_or, sym, refl, arith, inl, inr}
 use Rattle.std.proofs.lemmas.Bool.Decides.{nat_tests, eqb_tells}
 use Rattle.cdg_instructions.specs.Instruction.{known_codes, Means, IsGraphics}
@@ -6,7 +6,7 @@ use Rattle.cdg_instructions.specs.Meaning.{graphics, meaning_by, meaning}
 use Rattle.cdg_instructions.specs.declared.instr.Instr.{Instr}
 use Rattle.cdg_instructions.specs.declared.instr.Instr.TheVariants.{Idle, Foreign, Unknown, MemoryPreset, BorderPreset, SetTile, XorTile, ScrollPreset, ScrollCopy, Transparency, ColoursLow, ColoursHigh}
 
--- two symbols decide
+-- two symbols decide the meaning
 by_two : (word : List ℕ) (mode code : ℕ) (instr : Instr) → get_or word 0 0 ≡ mode → get_or word 1 0 ≡ code
     → instr ≡ meaning_by word mode code
     → instr ≡ meaning_by word (get_or word 0 0) (get_or word 1 0)
@@ -54,7 +54,7 @@ meaning_is word (Transparency a) h = by_two word 9 28 _ h.0.mode_is h.0.code_is 
 meaning_is word (ColoursLow a) h = by_two word 9 30 _ h.0.mode_is h.0.code_is (cc)
 meaning_is word (ColoursHigh a) h = by_two word 9 31 _ h.0.mode_is h.0.code_is (cc)
 
--- ---- the function gives what a word means
+-- ---- the function returns the meaning of a word
 
 is_number : (a b : ℕ) → (a == b) ≡ true → a ≡ b
 is_number a b t =

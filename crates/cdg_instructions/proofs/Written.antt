@@ -1,4 +1,4 @@
--- What is written for an instruction means it.
+-- The symbols that are written for an instruction mean it.
 use Rattle.std.proofs.Common.{◌≡◌, ℕ, ◌+◌, ◌*◌, ◌<◌, ◌≤◌, ◌/◌, ◌%◌, List, [], ◌∷◌, length, get_or, drop, map, flat_map, sym, ap, refl, ◌∙◌, arith}
 use Rattle.std.proofs.lemmas.Bool.Decides.{nat_tests}
 use Rattle.cdg_instructions.specs.Instruction.{Means, InRange, InTileRange, InScrollRange, IsKnown, IsWritten, IsTile, IsScroll, IsGraphics, content, content_of, message_of, tile_symbols, scroll_symbols, colour_symbols, move, offset_across, offset_down, table_colour}

@@ -1,4 +1,4 @@
--- Units that are changed where they stand.
+-- Units that are changed in place.
 use Rattle.std.proofs.Common.{◌≡◌, ℕ, ◌+◌, ◌-◌, ◌*◌, ◌≤◌, List, ◌++◌, length, take, drop, Some, sym, ap, ap₂, ◌∙◌, length-take-le, arith}
 use Rattle.std.proofs.Math.Nat.{mul_comm}
 use Rattle.std.proofs.lemmas.List.{take-append-drop}
@@ -11,8 +11,8 @@ use Rattle.cdg_io.specs.Pump.{Works, units_of}
 use Rattle.cdg_io.specs.Run.{run_state, run_gives}
 use Rattle.cdg_io.proofs.Frames.{machine_of, moving}
 
--- The units that a row begins with were copied to a buffer from a place on, and changed there: what follows them is
--- left, the stage ran, and what it gave stands behind what the buffer held.
+-- The first units of a row were copied to a buffer and changed there: the row keeps its other units, the stage ran,
+-- and its output is behind the earlier bytes of the buffer.
 pub row_passes : {S : Type 0} (next : S → List ℕ → S) (gives : S → List ℕ → Option (List ℕ)) (s s' : S)
     (row row' copied buffer new : List ℕ) (start unit n size end : ℕ)
     → size ≡ unit * n → size ≤ length row → copied ≡ take size row → row' ≡ drop size row
@@ -28,14 +28,14 @@ row_passes next gives s s' row row' copied buffer new start unit n size end coun
       put = put;
     }
 
--- what a part of a buffer became stands behind what was before it
+-- the changed part of a buffer is behind the bytes before it
 pub put_behind : (buffer changed : List ℕ) (start size end : ℕ) → start ≤ length buffer → end ≡ start + size
     → length changed ≡ size
     → take end (put_mid start (end - start) buffer changed) ≡ take start buffer ++ changed
 put_behind buffer changed start size end within at long =
     take-put_mid start (end - start) buffer changed end (omega (arith, at, long)) within
 
--- and what was behind it stays
+-- and the bytes behind it are unchanged
 pub stays_behind : (buffer changed : List ℕ) (start size end : ℕ) → start ≤ length buffer
     → end ≡ start + size → length changed ≡ size
     → drop end (put_mid start (end - start) buffer changed) ≡ drop end buffer

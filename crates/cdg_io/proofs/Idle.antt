@@ -1,4 +1,4 @@
--- Runs of items that are idle: the state stays, and each gives the same.
+-- Runs of idle items: the state stays, and each item has the same output.
 use Rattle.std.proofs.Common.{◌≡◌, ℕ, zero, suc, ◌+◌, ◌*◌, ◌≤◌, List, [], ◌∷◌, ◌++◌, length, take, drop, Some, refl, sym, ap, ◌∙◌, arith, ◌-◌, ◌/◌}
 use Rattle.std.proofs.Math.Nat.{mul-suc, mul_comm, mul-le-mul_right, div-mul-le_self}
 use Rattle.std.proofs.lemmas.List.{drop-drop, length-replicate, length-take-le, replicate-append-replicate, take-append-drop}
@@ -61,7 +61,7 @@ take-parts size (suc m) zero xs few = absurd (omega (arith, few))
 take-parts size (suc m) (suc n) xs few =
     ap (λ rest. take size xs ∷ rest) (take-parts size m n (drop size xs) (omega (arith, few)))
 
--- the first of some of the chunks of a list are its first units
+-- the first chunks of a list are its first units
 pub first_units : (size m n all : ℕ) (xs : List ℕ) (chunks : List (List ℕ))
     → chunks ≡ first_chunks size all xs
     → m ≤ n → n ≤ all → take m (take n chunks) ≡ units_of size m xs
@@ -70,7 +70,7 @@ first_units size m n all xs chunks are few within =
     ∙ ap (take m) (take-parts size n all xs within)
     ∙ take-parts size m n xs few
 
--- Idle units were passed over, and the zeros that they give put.
+-- Idle units were passed over, and zeros, their output, were written.
 pub run_passes : {S : Type 0} (next : S → List ℕ → S) (gives : S → List ℕ → Option (List ℕ)) (s : S)
     (idle : Option (List ℕ)) (row row' old new : List ℕ) (units : List (List ℕ))
     (size count zeros start end : ℕ) → idle ≡ Some (replicate zeros 0) → size * count ≤ length row
@@ -106,7 +106,7 @@ pub units_fit : (size n : ℕ) (row : List ℕ) → n ≤ length row / size → 
 units_fit size n row few =
     omega (arith, mul_comm size n, mul-le-mul_right size few, div-mul-le_self (length row) size)
 
--- A part of a buffer became so many zeros: they stand behind what was before it, and what was behind it stays.
+-- A part of a buffer became zeros: they are behind the bytes before it, and the bytes behind it are unchanged.
 pub zeros_behind : (buffer ys : List ℕ) (start m size : ℕ) → start ≤ length buffer → ys ≡ replicate m 0
     → length ys ≡ size
     → take (start + size) (put_mid start (start + size - start) buffer ys)
@@ -122,7 +122,7 @@ rest_kept buffer ys start size within long =
     drop-put_mid start (start + size - start) buffer ys (start + size) (omega arith) within
     (omega (arith, long))
 
--- what is the same from a place on is so from a later one on
+-- lists that agree from one place agree from each later place
 pub same_behind : (xs ys : List ℕ) (m n : ℕ) → m ≤ n → drop m xs ≡ drop m ys → drop n xs ≡ drop n ys
 same_behind xs ys m n later same =
     let split : n ≡ m + (n - m) = omega (arith, later) in

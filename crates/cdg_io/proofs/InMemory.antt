@@ -1,9 +1,9 @@
--- What the calls of a source in memory say of how it was made.
+-- The calls of a source in memory, by the lists with which it was made.
 use Rattle.std.proofs.Common.{◌≡◌, ℕ, Bool, List, ◌∙◌, min, length, subst}
 use Rattle.std.specs.Prelude.{◌↔◌, Contains, IsTrue}
 use Rattle.cdg_io.specs.Memory.{may_move}
 
--- whether a call is listed, in the list that was looked through
+-- whether a call is listed in the given list
 pub listed : (test answer : Bool) (seen fails : List ℕ) (call number : ℕ) → (IsTrue test ↔ Contains seen call)
     → test ≡ answer → seen ≡ fails → call ≡ number
     → IsTrue answer ↔ Contains fails number
@@ -12,7 +12,7 @@ listed test answer seen fails call number tells is same here =
     (λ (l : List ℕ). IsTrue test ↔ Contains l number) same
     (subst (λ (k : ℕ). IsTrue test ↔ Contains seen k) here tells))
 
--- how many bytes are moved of those that were left
+-- the number of bytes that a call moves
 pub moves : (n most wanted call number : ℕ) (from left seen cuts : List ℕ) → n ≡ min most (length from)
     → from ≡ left → most ≡ may_move seen call wanted → seen ≡ cuts → call ≡ number
     → n ≡ min (may_move cuts number wanted) (length left)

@@ -6,7 +6,7 @@ use borrow.Rule.Slice.PartMut.{put_mid, post_of}
 use Rattle.cdg_io.proofs.Bytes.{take-put_mid_on}
 use Rattle.std.specs.Io.KnownBytes.{Appends, Consumes}
 
--- what was given stands behind what the buffer held
+-- the output is behind the earlier bytes of the buffer
 pub given_behind : (buffer new given rest : List ℕ) (end k n : ℕ) → end ≤ length buffer → n ≡ length given
     → new ≡ given ++ rest
     → Appends (Some (take end buffer)) (Some (take (end + n) (put_mid end k buffer new))) given
@@ -16,7 +16,7 @@ given_behind buffer new given rest end k n within count is =
     let fits : n ≤ length new = omega (arith, count, ap length is, length-append given rest) in
     sym (take-put_mid_on end k n buffer new within fits) ∙ ap (λ l. take end buffer ++ l) front
 
--- a unit was taken from the front of a row
+-- a unit was consumed from the front of a row
 pub unit_taken : (row : List ℕ) (size n m : ℕ) → n ≡ size → m ≡ size → size ≤ length row
     → (length (take n row) ≡ size)
     × Consumes (Some row) (Some (take (length row - m) (drop m row))) (take n row)
@@ -28,7 +28,7 @@ unit_taken row size n m first last long =
       sym (take-append-drop n row) ∙ ap (λ l. take n row ++ l) (sym rest),
     )
 
--- behind what was given the buffer is as it was
+-- behind the output, the buffer is unchanged
 pub rest_stays : (buffer new given old : List ℕ) (end k n : ℕ) → end ≤ length buffer
     → length buffer ≤ end + k → n ≡ length given
     → new ≡ given ++ drop n (slice_range buffer end (length buffer)) → drop end buffer ≡ drop end old

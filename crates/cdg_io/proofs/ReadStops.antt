@@ -42,7 +42,7 @@ long_is_no_read same = absurd (cc)
 pub long_is_no_write : {T X : Type 0} → ◌≡◌ {A = Result T PumpStop} (Err TooLong) (Err WriteFault) → X
 long_is_no_write same = absurd (cc)
 
--- whatever ended it, a call that read on took at most one byte more than it was to look for
+-- whatever ended the call, it consumed at most one byte more than its limit
 pub read_part : {S : Type 0} (stop : ReadStop) (left : S → Option (List ℕ)) (faults : S → ℕ)
     (most : ℕ) {before after : S} → (stop ≡ NoMemory → ReadsWithin left most before after)
     → (stop ≡ TextTooLong → ConsumesExactly (left before) (left after) (most + 1))
@@ -61,7 +61,7 @@ read_part Failed left faults most {before} {after} none long cut =
       Consumes-kept (left before) (left read.last) (left after) read.taken read.took read.nothing,
     )
 
--- a read failed after some bytes were taken without a fault
+-- a read failed, after some bytes were consumed without a fault
 pub stops_after : {S : Type 0} (left : S → Option (List ℕ)) (faults : S → ℕ) (few most : ℕ)
     (before mid after : S) (taken : List ℕ) → Consumes (left before) (left mid) taken
     → faults mid ≡ faults before → length taken + few ≤ most → StopsAtFault left faults few mid after
@@ -75,7 +75,7 @@ stops_after left faults few most before mid after taken took quiet fits stops = 
   nothing = stops.nothing;
 }
 
--- what one more read took, and how much that is in all
+-- the bytes that one more read consumed, and the sum
 pub read_more : (a b c : Option (List ℕ)) (old buf : List ℕ) (n : ℕ) → n ≤ length buf → Consumes a b old
     → Consumes b c (take n buf)
     → Consumes a c (old ++ take n buf) × (length (old ++ take n buf) ≡ length old + n)

@@ -1,4 +1,4 @@
--- What holds of an answer that is a fault, and of the bytes that were taken before a read gave none.
+-- Answers that are faults, and the bytes that were consumed before a read returned none.
 use Rattle.std.proofs.Common.{◌≡◌, ℕ, ◌+◌, ◌-◌, ◌^◌, ◌<◌, ◌≤◌, min, inl, inr, None, Some, List, ◌++◌, length, take, sym, ap, ◌∙◌, subst, arith, le_refl, append-nil, length-append, Result, Ok, Err}
 use Rattle.std.specs.Prelude.{IsErr, IsErrAnd, OnErr, OnOk, IfOk, IfSome}
 use Rattle.std.specs.declared.option.Option.{Option}
@@ -17,7 +17,7 @@ pub on_err : {T E X : Type 0} (r : Result T E) → X → OnErr r X
 on_err (Ok value) x = tt
 on_err (Err fault) x = x
 
--- a fault is no value
+-- a fault is not a value
 pub if_no_value : {T E : Type 0} (P : T → Type 0) (r : Result T E) → IsErr r → IfOk r P
 if_no_value P (Ok value) err = (cc)
 if_no_value P (Err fault) err = tt
@@ -26,18 +26,18 @@ pub on_no_value : {T E : Type 0} (X : Type 0) (r : Result T E) → IsErr r → O
 on_no_value X (Ok value) err = (cc)
 on_no_value X (Err fault) err = tt
 
--- and a value no fault
+-- and a value is not a fault
 pub value_is_no_fault : {T E X : Type 0} (value : T) (fault : E) → ◌≡◌ {A = Result T E} (Ok value) (Err fault)
     → X
 value_is_no_fault value fault same = absurd (cc)
 
--- the fault that is known
+-- the fault equals the known one
 pub known_fault : {T E : Type 0} (r : Result T E) (known : E) → IsErrAnd r (λ fault. fault ≡ known)
     → r ≡ Err known
 known_fault (Ok value) known is = absurd is
 known_fault (Err fault) known is = ap Err is
 
--- of two faults that differ the answer is not both
+-- an answer is not one of two different faults
 pub other_fault : {T E X : Type 0} (r : Result T E) (known other : E) → (known ≡ other → ⊥)
     → IsErrAnd r (λ fault. fault ≡ known) → r ≡ Err other
     → X
@@ -59,7 +59,7 @@ pub failed_room : {E : Type 0} (r : Result ℕ E) (room : ℕ) (before now : Cou
 failed_room (Ok count) room before now err same = (cc)
 failed_room (Err fault) room before now err same = record { full = tt; short = tt; failed = same }
 
--- nothing is counted where a read failed
+-- a failed read counts nothing
 pub nothing_read : {E : Type 0} (fault : E) (room : ℕ) (before now : Tally) → now ≡ before
     → TellsRead {E = E} 1 room (kept_counts before now) (Err fault)
 nothing_read fault room before now same = record {
@@ -67,7 +67,7 @@ nothing_read fault room before now same = record {
   room = record { full = tt; short = tt; failed = ap (λ (t : Tally). Some t.fills) same };
 }
 
--- a read is counted from a tally on, and with the room that there was
+-- a read counts from an equal tally and with an equal room
 pub read_from : {E : Type 0} (count room room' : ℕ) (before mid now : Tally) → mid ≡ before → room ≡ room'
     → TellsRead {E = E} 1 room (kept_counts mid now) (Ok count)
     → TellsRead {E = E} 1 room' (kept_counts before now) (Ok count)
@@ -75,9 +75,9 @@ read_from {E} count room room' before mid now same size read =
     subst (λ (t : Tally). TellsRead {E = E} 1 room' (kept_counts t now) (Ok count)) same
     (subst (λ (k : ℕ). TellsRead {E = E} 1 k (kept_counts mid now) (Ok count)) size read)
 
--- ---- counts that stayed until a moment
+-- ---- counts that were unchanged up to a moment
 
--- one more, at most the last value of a counter, is a rise
+-- a count that increases by one, or stays at its maximum, has risen
 pub rose_by_one : (before now : ℕ) → now ≡ min (before + 1) (2 ^ 64 - 1) → Rose before now
 rose_by_one before now more =
     elim (cases_lt before now) [ inl lt ↦ inl lt | inr le ↦ inr (omega (arith, more, le)) ]
@@ -94,14 +94,14 @@ later_since same later = omega (arith, same, later)
 pub later_if_same : {before now : ℕ} → now ≡ before → before ≤ now
 later_if_same same = omega (arith, same)
 
--- the answer is not this fault, and none was counted
+-- the answer is not this fault, and no such fault was counted
 pub no_fault : {T E : Type 0} {fault : E} {before now : ℕ} {result : Result T E}
     → (result ≡ Err fault → Rose before now) → now ≡ before → TellsFault fault before now result
 no_fault other same = record { later = later_if_same same; rose = other; same = λ _. same }
 
 -- ---- bytes
 
--- a read of nothing takes no more
+-- a read of no bytes consumes nothing more
 pub Consumes-still : (a b c : Option (List ℕ)) (bs buf : List ℕ) (n : ℕ) → n ≡ 0 → Consumes a b bs
     → Consumes b c (take n buf)
     → Consumes a c bs
@@ -116,14 +116,14 @@ Consumes-still_in a b c at k n xs ys within zero p q =
     subst (Consumes a c) (sym (take-put_mid_below at k xs ys at (le_refl at) within))
     (Consumes-still a b c (take at xs) ys n zero p q)
 
--- all was taken
+-- all bytes were consumed
 pub Consumes-all : (a b : Option (List ℕ)) (bs : List ℕ) → Consumes a b bs → IsAtEnd b
     → IfSome a (λ all. bs ≡ all)
 Consumes-all None b bs p end = tt
 Consumes-all (Some xs) None bs p end = absurd p
 Consumes-all (Some xs) (Some ys) bs p end = sym (p ∙ ap (λ (l : List ℕ). bs ++ l) end ∙ append-nil bs)
 
--- there was more
+-- if more than n bytes were consumed, the input has more than n bytes
 pub Consumes-more : (a b : Option (List ℕ)) (bs : List ℕ) (n : ℕ) → Consumes a b bs → n < length bs
     → IfSome a (λ all. n < length all)
 Consumes-more None b bs n p more = tt

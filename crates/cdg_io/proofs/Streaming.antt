@@ -1,4 +1,4 @@
--- From the run of a pump to what a streaming call does.
+-- From the run of a pump to the effect of a streaming call.
 use Rattle.std.proofs.Common.{◌≡◌, ◌≢◌, ℕ, suc, ◌+◌, ◌*◌, ◌/◌, ◌<◌, ◌≤◌, List, length, take, drop, sym, ap, ◌∙◌, subst, arith, Result, Ok, Err}
 use Rattle.std.proofs.Math.Nat.{suc-mul, div-mul-le_self, lt-div-mul-add, lt_of_mul-lt-mul_right}
 use Rattle.std.specs.List.{concat}
@@ -19,7 +19,7 @@ pump_error stop = Err stop
 abbrev error : (T : Type 0) {E : Type 0} → E → Result T E
 error T stop = Err stop
 
--- the count of the whole units of some bytes
+-- n is the number of whole units in some bytes
 pub record IsWhole (size n : ℕ) (bytes : List ℕ) : Type 0 where
   pub fits : n * size ≤ length bytes
   pub rest : length bytes < n * size + size
@@ -28,7 +28,7 @@ pub whole_units : (size : ℕ) (bytes : List ℕ) → 0 < size → IsWhole size 
 whole_units size bytes some =
     record { fits = div-mul-le_self (length bytes) size; rest = lt-div-mul-add some }
 
--- bytes that are at most one more than the limit hold no more units
+-- at most one byte more than the limit adds no whole unit
 within_limit : (size limit n len : ℕ) → 1 < size → n * size ≤ len → len ≤ limit * size + 1 → n ≤ limit
 within_limit size limit n len some fits within =
     let less : n * size < suc limit * size = omega (arith, fits, within, some, suc-mul limit size) in
@@ -41,7 +41,7 @@ units_of-take size n bytes fits =
     (omega (arith, length-take-le (n * size) bytes fits)))
     ∙ ap (units_of size n) (take-append-drop (n * size) bytes)
 
--- how the stop of a pump is told
+-- `told` is the stop of the call at this stop of the pump
 pub record IsTold {E : Type 0} (torn_at : ℕ → E) (fault : E) (stop : PumpStop) (told : E) : Type 0 where
   pub fault_kept : stop ≡ WriteFault → told ≡ fault
   pub fault_only : told ≡ fault → stop ≡ WriteFault
@@ -62,7 +62,7 @@ module _ {S T E : Type 0} (reading : Reading T E) (machine : Machine S) (moved :
     abbrev Puts : List ℕ → Type 0
     Puts text = Appends moved.held.before moved.held.after text
 
-    -- what the stage gives for the whole units of some bytes is what is said of these bytes
+    -- the output of the stage for whole units is the text of these bytes
     abbrev pub Says : Type 0
     Says = (bytes : List ℕ) (n : ℕ) → n ≤ reading.cut.limit → IsWhole reading.cut.size n bytes
         → GivesText reading.gives bytes (text_of bytes n)

@@ -43,7 +43,7 @@ module _ (moved : Moved Standing) (taken : List ℕ) (fresh : moved.state.before
       streams_stop thinning (machine_of thin_next thin_gives) moved taken stop stop (omega arith) (told stop)
       says p
 
--- what was taken of an input that was read to its end is all of it
+-- the bytes consumed from an input that was read to its end are all its bytes
 taken_all : (all : List ℕ) (left : Option (List ℕ)) (taken : List ℕ) → Consumes (Some all) left taken
     → IsAtEnd left
     → taken ≡ all

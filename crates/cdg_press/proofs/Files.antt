@@ -19,7 +19,7 @@ next_packs file n long =
     let next : n + 1 ≡ suc n = omega arith in
     ap (λ k. file_pack file k) next ∙ ap (λ (xs : List (List ℕ)). get_or xs (suc n) []) (packs_are file long)
 
--- after the first pack of the file the others come
+-- the other packs of the file follow its first pack
 later_of_file : (file rest : List ℕ) → 24 ≤ length file → rest ≡ drop 24 file
     → ComesLater (IsPackAfter 0 file) 1 (IsPackAfter 0 rest)
 later_of_file file rest long same n pack comes =

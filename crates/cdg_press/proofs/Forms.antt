@@ -1,4 +1,4 @@
--- What holds of thin forms.
+-- Facts about thin forms.
 use Rattle.std.proofs.Common.{◌≡◌, ℕ, zero, suc, ◌+◌, ◌*◌, ◌/◌, ◌<◌, true≢false, List, [], ◌∷◌, ◌++◌, length, get_or, take, drop, map, refl, sym, ap, ap₂, ◌∙◌, subst, inl, inr, arith, length-append}
 use Rattle.std.specs.Prelude.{IsTrue}
 use Rattle.std.specs.List.{concat}
@@ -26,7 +26,7 @@ instr_at instrs n = get_or instrs n Idle
 abbrev pub instructions_of : List (List ℕ) → List Instr
 instructions_of packs = map pack_instruction packs
 
--- what stands at the start after some instructions
+-- the standing after some instructions from the start
 abbrev pub after : List Instr → Standing
 after instrs = standing_after blank instrs
 
@@ -39,7 +39,7 @@ pub instructions_at : (packs : List (List ℕ)) (n : ℕ) → n < length packs
     → instr_at (instructions_of packs) n ≡ pack_instruction (pack_at packs n)
 instructions_at packs n lt = get_or-map pack_instruction packs n [] Idle lt
 
--- packs of 24 bytes have these
+-- packs of 24 bytes have these instructions
 pub read_each : (packs : List (List ℕ))
     → ((n : ℕ) → n < length packs → IsInstructionOf (pack_at packs n) (pack_instruction (pack_at packs n)))
     → AreInstructionsOf packs (instructions_of packs)
@@ -53,7 +53,7 @@ default_at [] n d e lt = absurd (omega arith)
 default_at (x ∷ xs) zero d e lt = refl
 default_at (x ∷ xs) (suc n) d e lt = default_at xs n d e (omega arith)
 
--- and no others
+-- and no other instructions
 pub only_reading : (packs : List (List ℕ)) (instrs : List Instr) → AreInstructionsOf packs instrs
     → instrs ≡ instructions_of packs
 only_reading packs instrs h =
@@ -83,7 +83,7 @@ first_read m packs instrs h =
       | inr past ↦ rw (take_all m packs past, take_all m instrs (omega (arith, h.count))) h
     ]
 
--- ---- the same stands in a thin form
+-- ---- a thin form has the same standing
 
 pub thin_read : (packs thins : List (List ℕ)) → IsThinForm packs thins
     → AreInstructionsOf thins (instructions_of thins)
@@ -146,7 +146,7 @@ stand_alike packs thins f (suc m) =
           rw (all f.instrs f.read.count, all others others_count) before
     ])
 
--- an instruction that is needless after some instructions is so after others after which the same stands
+-- whether an instruction is needless depends only on the standing before it
 pub needless_alike : (one other : List Instr) (instr : Instr) → after one ≡ after other → IsNeedless one instr
     → IsNeedless other instr
 needless_alike one other instr same h = record {

@@ -17,7 +17,7 @@ use Rattle.cdg_press.specs.Thin.{IsInstructionOf}
 use Rattle.cdg_press.specs.Steps.{pack_instruction}
 use Rattle.cdg_press.proofs.Sealing.{sealed_word}
 
--- two words that differ in their parity alone
+-- two words that differ only in their parity
 record Alike (w v : List ℕ) : Type 0 where
   mode : get_or w 0 0 ≡ get_or v 0 0
   code : get_or w 1 0 ≡ get_or v 1 0
@@ -91,7 +91,7 @@ means_same w v (ColoursHigh a) s h = (graphics_same w v 31 s h.0, h.1 ∙ colour
 length-symbols_of : (pack : List ℕ) → length (symbols_of pack) ≡ length pack
 length-symbols_of pack = length-map pack (λ byte. byte % 64)
 
--- the codeword made of a pack means what its symbols mean
+-- a pack with corrected parity means what its symbols mean
 pub made_good_means : (pack word : List ℕ) (instr : Instr) → IsMadeGood (symbols_of pack) word
     → Means word instr
     → instr ≡ pack_instruction pack
@@ -121,7 +121,7 @@ split_message [] size = absurd (omega arith)
 split_message (a ∷ []) size = absurd (omega arith)
 split_message (a ∷ b ∷ rest) size = refl
 
--- each 24 bytes have an instruction
+-- every pack of 24 bytes has an instruction
 pub has_instruction : (pack : List ℕ) → length pack ≡ 24 → IsInstructionOf pack (pack_instruction pack)
 unfolding pack_instruction
 has_instruction pack size =
@@ -142,11 +142,11 @@ has_instruction pack size =
           (meaning_means symbols),
     )
 
--- an idle pack says nothing
+-- an idle pack has the instruction `Idle`
 pub idle_instruction : IsInstructionOf idle_pack Idle
 idle_instruction = (idle_pack, record { size = refl; codeword = idle_is_codeword; message = refl }, refl)
 
--- a pack whose mode is 0 says nothing
+-- and so has a pack whose mode is 0
 pub idle_by_mode : (pack : List ℕ) → get_or (symbols_of pack) 0 0 ≡ 0 → pack_instruction pack ≡ Idle
 unfolding pack_instruction meaning
 idle_by_mode pack mode = ap (λ m. meaning_by (symbols_of pack) m (get_or (symbols_of pack) 1 0)) mode

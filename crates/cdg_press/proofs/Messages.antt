@@ -1,4 +1,4 @@
--- What a word says, but for its parity.
+-- The message of a word, without its parity.
 use Rattle.std.proofs.Common.{◌≡◌, ℕ, ◌+◌, ◌<◌, List, ◌++◌, length, get_or, take, drop, sym, ap, ap₂, ◌∙◌, arith}
 use Rattle.std.proofs.lemmas.List.{ext_get_or, get_or-take, get_or-drop, length-take-le, length-drop}
 use Rattle.cdg_instructions.specs.Instruction.{message_of}
@@ -16,7 +16,7 @@ same_part word other first many size size' fits same =
     get_or-take many (drop first word) k 0 small ∙ get_or-drop first word k 0 ∙ same k small
     ∙ sym (get_or-take many (drop first other) k 0 small ∙ get_or-drop first other k 0))
 
--- words with the same symbols at 0 and 1 and at 4 to 19 say the same
+-- words with the same symbols at 0, 1 and 4 to 19 have the same message
 pub same_message : (word other : List ℕ) → length word ≡ 24 → length other ≡ 24
     → ((k : ℕ) → k < 2 → get_or word k 0 ≡ get_or other k 0)
     → ((k : ℕ) → k < 16 → get_or word (4 + k) 0 ≡ get_or other (4 + k) 0) → message_of word ≡ message_of other

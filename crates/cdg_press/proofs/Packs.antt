@@ -35,7 +35,7 @@ small_part zero bytes k lt = absurd (omega (arith, lt))
 small_part (suc count) bytes zero lt = low_small (take 24 bytes)
 small_part (suc count) bytes (suc k) lt = small_part count (drop 24 bytes) k (omega (arith, lt))
 
--- 24 symbols can be made good
+-- 24 symbols can get correct parity
 make_good : (symbols : List ℕ) → length symbols ≡ 24 → All (λ s. s < 64) symbols
     → (word : List ℕ) × IsMadeGood symbols word
 make_good symbols size small =
@@ -62,7 +62,7 @@ has_symbols symbols word good =
       at_body = λ k lt. has.body k lt ∙ sym (get_or-drop 2 (message_of symbols) k 0);
     }
 
--- and in one way
+-- in one way only
 one_made_good : (symbols one other : List ℕ) → IsMadeGood symbols one → IsMadeGood symbols other → one ≡ other
 one_made_good symbols one other a b =
     only_one_sealed (message_of symbols) (drop 2 (message_of symbols)) one other a.codeword b.codeword

@@ -1,4 +1,4 @@
--- The stream that was written is a pressed one.
+-- The stream that was written is a pressed stream.
 use Rattle.std.proofs.Common.{◌≡◌, ℕ, ◌+◌, ◌*◌, ◌/◌, ◌<◌, ◌≤◌, List, [], length, get_or, refl, subst, arith}
 use Rattle.std.specs.declared.option.Option.{Option}
 use Rattle.std.specs.Io.KnownBytes.{Appends}
@@ -86,7 +86,7 @@ part_pressed sheet file layout texts lead_in audio a b disc texts_are w = (
       w.2),
 )
 
--- what two laws on presses say
+-- two laws about presses
 abbrev pub HaveStreams : Type 0
 HaveStreams = (sheet : CueSheet) (file : List ℕ) (lead_in audio : ℕ) → IsSheet sheet → lead_in ≤ 450000
     → IsPressable sheet file lead_in audio
@@ -100,7 +100,7 @@ ArePrefixes =
     (IsPackAfter file_begin file) held n given
     → AppendsPrefix held.before held.after bytes
 
--- what was put is a prefix of a pressed stream
+-- the output is a prefix of a pressed stream
 pub prefix_pressed : HaveStreams → ArePrefixes
     → (sheet : CueSheet) (file : List ℕ) (lead_in audio : ℕ) (a b : Option (List ℕ))
     → IsSheet sheet → lead_in ≤ 450000 → IsPressable sheet file lead_in audio

@@ -1,4 +1,4 @@
--- Packs that stand one behind another, and that the stage goes over where they stand.
+-- Packs of a row, which the stage changes in place.
 use Rattle.std.proofs.Common.{◌≡◌, ℕ, length-append, length-drop, suc, ◌+◌, ◌-◌, ◌*◌, ◌<◌, ◌≤◌, List, ◌∷◌, ◌++◌, length, take, drop, Some, refl, subst, sym, ap, ap₂, ◌∙◌, append_assoc, append-nil, length-take-le, take_all, arith}
 use Rattle.std.proofs.lemmas.List.{drop-drop, take-append-drop}
 use Rattle.std.proofs.lemmas.Slice.{take-put_mid, drop-put_mid}
@@ -12,23 +12,22 @@ use Rattle.cdg_io.proofs.Frames.{machine_of, moving}
 use Rattle.cdg_screen.specs.Standing.{Standing}
 use Rattle.cdg_press.specs.Steps.{thin_next, thin_gives}
 
--- what stands after some packs, and the bytes that are given for them
+-- the standing after some packs, and the bytes that are their output
 abbrev pub state : Standing → List (List ℕ) → Standing
 state now packs = run_state thin_next now packs
 
 abbrev pub run : Standing → List (List ℕ) → List ℕ
 run now packs = concat (run_gives thin_next thin_gives now packs)
 
--- The stage went over the packs of a row before a place: so many are left, they stand as they were, and what
--- comes of all
--- is what stands before that place and what comes of those.
+-- The stage went over the packs of a row before the place `at`. The other `count` packs are unchanged. The state
+-- and the output of all packs follow from the state now, the bytes before `at`, and these packs.
 pub record Left (s : Standing) (all : List (List ℕ)) (now : Standing) (row : List ℕ) (at : ℕ) : Type 0 where
   pub count : ℕ
   pub size : length row ≡ at + 24 * count
   pub next : state s all ≡ state now (units_of 24 count (drop at row))
   pub gives : run s all ≡ take at row ++ run now (units_of 24 count (drop at row))
 
--- before the first
+-- before the first pack
 pub left_whole : (s : Standing) (row : List ℕ) (count : ℕ) → length row ≡ 24 * count
     → Left s (units_of 24 count row) s row 0
 left_whole s row count size = record {
@@ -38,7 +37,7 @@ left_whole s row count size = record {
   gives = refl;
 }
 
--- after the last
+-- after the last pack
 pub none_left : (s now : Standing) (all : List (List ℕ)) (row : List ℕ) (at : ℕ) → length row ≤ at
     → Left s all now row at
     → (now ≡ state s all) × (row ≡ run s all)
@@ -49,7 +48,7 @@ none_left s now all row at end left =
           ∙ append-nil (take at row) ∙ take_all at row end),
     )
 
--- what is given for a pack and those behind it
+-- the output for a pack and for those behind it
 given_first : (now : Standing) (pack new : List ℕ) (packs : List (List ℕ)) → Some new ≡ thin_gives now pack
     → run now (pack ∷ packs) ≡ new ++ run (thin_next now pack) packs
 given_first now pack new packs gave =
@@ -70,7 +69,7 @@ put_length at k row new within long =
       length-drop k (drop at row),
     )
 
--- one more
+-- one more pack
 pub left_less : (s now now' : Standing) (all : List (List ℕ)) (row new : List ℕ) (at k : ℕ) → at < length row
     → k ≡ 24 → length new ≡ k
     → now' ≡ thin_next now (take k (drop at row)) → Some new ≡ thin_gives now (take k (drop at row))
@@ -107,7 +106,7 @@ left_less s now now' all row new at k within is long after gave left =
           ∙ ap (λ (l : List ℕ). l ++ run now' (units_of 24 n (drop (at + 24) row'))) (sym front);
     }
 
--- two more
+-- two more packs
 pub left_two_less : (s now mid now' : Standing) (all : List (List ℕ)) (row first second : List ℕ)
     (at k m : ℕ) → at + 48 ≤ length row → k ≡ 24 → m ≡ 24 → length first ≡ k → length second ≡ m
     → mid ≡ thin_next now (take k (drop at row)) → Some first ≡ thin_gives now (take k (drop at row))

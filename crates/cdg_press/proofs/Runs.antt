@@ -19,15 +19,15 @@ use Rattle.cdg_press.proofs.Sameness.{if_needless, needless_if}
 
 -- ---- the run
 
--- what the stage gives for some packs
+-- the output of the stage for some packs
 abbrev run_of : Standing → List (List ℕ) → List (List ℕ)
 run_of now packs = run_gives thin_next thin_gives now packs
 
--- the pack that is given
+-- the output for one pack
 abbrev given_pack : Standing → List ℕ → List ℕ
 given_pack now pack = if is_needless now (pack_instruction pack) then idle_pack else pack
 
--- what stands after one instruction more
+-- the standing after one more instruction
 next_stands : (now : Standing) (before : List Instr) (pack : List ℕ) → now ≡ after before
     → thin_next now pack ≡ after (before ++ pack_instruction pack ∷ [])
 unfolding thin_next
@@ -35,9 +35,9 @@ next_stands now before pack same =
     ap (λ (now : Standing). standing_after now (pack_instruction pack ∷ [])) same
     ∙ sym (in_turn blank before (pack_instruction pack ∷ []))
 
--- a pack is thinned by what stands
+-- the standing decides whether a pack is needless
 module _ (now : Standing) (before : List Instr) (same : now ≡ after before) where
-  -- with an instruction more
+  -- with one more instruction
   with_one : (instr : Instr) → standing_after now (instr ∷ []) ≡ after (before ++ instr ∷ [])
   with_one instr =
       ap (λ (now : Standing). standing_after now (instr ∷ [])) same ∙ sym (in_turn blank before (instr ∷ []))
@@ -79,7 +79,7 @@ run_thinned now before (pack ∷ packs) same (suc n) lt =
     (run_thinned (thin_next now pack) (before ++ pack_instruction pack ∷ []) packs
     (next_stands now before pack same) n (omega arith))
 
--- the run over packs of 24 bytes, from where all is zero
+-- the run over packs of 24 bytes, from a blank standing
 run_is_thin : (now : Standing) (packs : List (List ℕ)) → now ≡ blank
     → ((n : ℕ) → n < length packs → length (get_or packs n []) ≡ 24)
     → IsThinForm packs (run_of now packs)
@@ -102,7 +102,7 @@ unit_sized (suc count) bytes fits zero lt = length-take-le 24 bytes (omega arith
 unit_sized (suc count) bytes fits (suc n) lt =
     unit_sized count (drop 24 bytes) (omega (arith, length-drop 24 bytes)) n (omega arith)
 
--- what the stage gives for the whole packs of some bytes is the text of their thin form
+-- the output of the stage for the whole packs of some bytes is the text of their thin form
 pub given_is_thin : (now : Standing) (bytes : List ℕ) (n : ℕ) → now ≡ blank → IsWhole 24 n bytes
     → IsThinText bytes (given 24 (machine_of thin_next thin_gives) now bytes n)
 given_is_thin now bytes n same whole =
@@ -115,6 +115,6 @@ given_is_thin now bytes n same whole =
       text_is = refl;
     }
 
--- so each list of bytes has one
+-- so each list of bytes has a thin text
 pub some_text : (bytes : List ℕ) → (text : List ℕ) × IsThinText bytes text
 some_text bytes = (_, given_is_thin blank bytes (length bytes / 24) refl (whole_units 24 bytes (omega arith)))

@@ -1,4 +1,4 @@
--- Whether the same stands, computed.
+-- Whether a standing is unchanged, computed.
 use Rattle.std.proofs.Common.{◌≡◌, ℕ, ◌&&◌, Bool, true, false, true≢false, List, [], ◌∷◌, refl, sym, ap, ◌∙◌, inl, inr}
 use Rattle.std.specs.Prelude.{nat_eq}
 use Rattle.std.specs.Bool.{Decides}
@@ -58,7 +58,7 @@ tells_same a b same =
     ((Decides-eqb a.h b.h).1 (ap (λ (now : Standing). now.h) same)))
     ((Decides-eqb a.v b.v).1 (ap (λ (now : Standing). now.v) same))
 
--- what is needless, by what stands
+-- the standing decides whether an instruction is needless
 pub needless_if : (now : Standing) (instr : Instr) → is_graphic instr ≡ true
     → standing_after now (instr ∷ []) ≡ now
     → is_needless now instr ≡ true

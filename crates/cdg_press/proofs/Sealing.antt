@@ -1,4 +1,4 @@
--- For all symbols there is a codeword.
+-- All symbols have a codeword.
 use Rattle.std.proofs.Common.{◌≡◌, ℕ, suc, ◌<◌, List, [], ◌∷◌, ◌++◌, length, take, bit_xor, refl, sym, ap, ◌∙◌, subst, append_assoc, length-append, arith, All}
 use Rattle.std.proofs.lemmas.Nat.{xor_lt}
 use Rattle.std.proofs.lemmas.List.{append-nil}
@@ -17,7 +17,7 @@ Symbol n = n < 64
 sum_below : (a b : ℕ) → a < 64 → b < 64 → bit_xor a b < 64
 sum_below a b a_lt b_lt = xor_lt 6 a b a_lt b_lt
 
--- parity symbols behind some symbols, which make the first sums 0
+-- two parity symbols behind some symbols, which make the first sums 0
 record HasTwo (xs : List ℕ) : Type 0 where
   high : ℕ
   low : ℕ

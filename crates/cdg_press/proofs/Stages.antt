@@ -1,4 +1,4 @@
--- The reasons of a refusal come one after another, and each comes only where those before it do not hold.
+-- The reasons of a refusal have an order, and each one requires that the earlier ones do not hold.
 use Rattle.std.proofs.Common.{◌≡◌, ◌≢◌, ℕ, zero, suc, ◌*◌, ◌/◌, ◌<◌, ◌≤◌, ◌⊎◌, List, length, refl, inl, inr, ap, sym, subst, ◌∙◌, arith}
 use Rattle.std.proofs.lemmas.Bool.{cases_lt}
 use Rattle.cue_sheet.specs.CueSheet.{CueSheet}
@@ -10,7 +10,7 @@ use Rattle.cdg_press.specs.declared.stops.PressStop.TheVariants.{PackTorn, Lengt
 use Rattle.cdg_press.proofs.Gaps.{one_first_gap}
 
 module _ (sheet : CueSheet) (file : List ℕ) (lead_in audio : ℕ) where
-  -- what is good at each stage; nothing is behind the last one
+  -- what must hold at each stage; after the last stage, nothing
   abbrev Passes : ℕ → Type 0
   Passes zero = IsWhole file
   Passes (suc zero) = audio_need sheet ≤ audio
@@ -21,7 +21,7 @@ module _ (sheet : CueSheet) (file : List ℕ) (lead_in audio : ℕ) where
   Passes (suc (suc (suc (suc (suc (suc zero)))))) = 0 < lead_in → lead_in_need sheet ≤ lead_in
   Passes (suc (suc (suc (suc (suc (suc (suc i))))))) = ⊥
 
-  -- the stage at which a reason comes
+  -- the stage of a reason
   abbrev stage : PressStop → ℕ
   stage (PackTorn pack) = 0
   stage (LengthShort need) = 1
@@ -59,7 +59,7 @@ module _ (sheet : CueSheet) (file : List ℕ) (lead_in audio : ℕ) where
     | inr from ↦ (let last : 5 ≡ i = omega (arith, lt, from) in subst Passes last few)
   ]
 
-  -- where a reason comes, the stages before it are good,
+  -- if a reason holds, the earlier stages pass,
   earlier : (stop : PressStop) → IsPressStop sheet file lead_in audio stop → stop ≢ NoMemory → (i : ℕ)
       → i < stage stop
       → Passes i
@@ -79,7 +79,7 @@ module _ (sheet : CueSheet) (file : List ℕ) (lead_in audio : ℕ) where
   ]
   earlier NoMemory h told i lt = absurd (told refl)
 
-  -- and its own is not
+  -- and its own stage does not
   fails : (stop : PressStop) → IsPressStop sheet file lead_in audio stop → stop ≢ NoMemory
       → ¬ Passes (stage stop)
   fails (PackTorn pack) h told = λ good. h.0 good
@@ -92,7 +92,7 @@ module _ (sheet : CueSheet) (file : List ℕ) (lead_in audio : ℕ) where
   fails WriteFault h told = λ good. good
   fails NoMemory h told = absurd (told refl)
 
-  -- at one stage comes one reason
+  -- each stage has one reason
   same : (stop other : PressStop) → stage stop ≡ stage other → IsPressStop sheet file lead_in audio stop
       → IsPressStop sheet file lead_in audio other
       → stop ≡ other
@@ -127,7 +127,7 @@ module _ (sheet : CueSheet) (file : List ℕ) (lead_in audio : ℕ) where
     ]
   ]
 
-  -- what is pressed is not refused
+  -- a file that can be pressed is not refused
   pub not_refused : (stop : PressStop) → IsPressable sheet file lead_in audio
       → IsPressStop sheet file lead_in audio stop
       → (stop ≡ NoMemory) ⊎ (stop ≡ WriteFault)

@@ -1,4 +1,4 @@
--- What an instruction does, as its effect says it and as the definitions of what stands do.
+-- The effect of an instruction, compared with the definition of the standing.
 use Rattle.std.proofs.Common.{◌≡◌, ℕ, ◌+◌, ◌-◌, ◌<◌, ◌≤◌, subst, ◌&&◌, List, [], ◌∷◌, refl, arith}
 use Rattle.std.specs.Prelude.{nat_le, nat_lt, if◌then◌else◌, slice_index}
 use Rattle.std.proofs.lemmas.Bool.Decides.{nat_tests}
@@ -108,7 +108,7 @@ offsets_are (Transparency levels) old = refl
 offsets_are (ColoursLow colours) old = refl
 offsets_are (ColoursHigh colours) old = refl
 
--- the place of a table from which on colours are set
+-- colours are set from entry 0 or 8 at most
 pub first_most : (effect : Effect) (first : ℕ) (colours : List ℕ) → IsEffectInRange effect
     → effect ≡ Colours first colours
     → first ≤ 8

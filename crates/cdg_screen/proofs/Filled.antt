@@ -8,7 +8,7 @@ use Rattle.cdg_screen.specs.Memory.{at, Becomes, IsMemory}
 use Rattle.cdg_screen.proofs.MemoryRows.{at_is, element}
 use Rattle.cdg_screen.proofs.WholeRows.{between_places, else_before, else_behind, then_within}
 
--- all pixels have the colour of all rows
+-- if all rows have one colour, all pixels have it
 pub filled_by_rows : (rows : List (List ℕ)) (left top colour : ℕ)
     → ((r : ℕ) → r < 216 → (k : ℕ) → k < 300 → element rows r k ≡ colour)
     → Becomes (record { rows = rows; left = left; top = top }) (λ x y. colour)
@@ -37,9 +37,8 @@ outside place end x a b past = elim (cases_lt x place) [
   | inr from ↦ else_behind place end x a b (past from)
 ]
 
--- Of a row that goes on at its front the part behind a place became one colour, and then its front. So did so
--- many pixels
--- from there on.
+-- In a row that wraps around, `count` pixels from a place became one colour, and then the others at its front.
+-- Together these are `width` pixels.
 pub filled_round : (x left first count width colour x' v w old : ℕ) → left < 300 → x' < 300 → x + width ≤ 300
     → first ≡ (x + left) % 300 → count ≡ min width (300 - first)
     → v
@@ -67,7 +66,7 @@ filled_round x left first count width colour x' v w old left_lt x'_lt fits first
     ∙ once
     ∙ outside first (first + count) k colour old (λ from. omega arith))
 
--- the same of a row of the memory
+-- the same for a row of the memory
 pub row_filled : (rows : List (List ℕ)) (one two : List ℕ) (left top x y width first count colour r : ℕ)
     → IsMemory (record { rows = rows; left = left; top = top }) → x + width ≤ 300 → y < 216
     → first ≡ (x + left) % 300 → count ≡ min width (300 - first) → r ≡ (y + top) % 216

@@ -36,7 +36,7 @@ xor_kept colour old kept =
     ∙ ap (λ n. bit_xor n old) (sym kept)
     ∙ xor_self old
 
--- by exclusive or zeros alone leave the others as they are
+-- combining with zeros leaves the pixels as they are
 pub zeros_leave : (pixels others zeros : List ℕ) (r : Bool) → 6 ≤ length pixels → length zeros ≡ 6
     → ((i : ℕ) → i < 6 → get_or zeros i 0 ≡ 0) → r ≡ bytes_eq (take 6 pixels) zeros
     → IsTrue r
@@ -52,7 +52,7 @@ zeros_leave pixels others zeros r long size none is =
 
 -- ---- Six pixels of the memory.
 
--- they stand side by side in a row
+-- the six pixels are side by side in a row
 pub six_at : (rows : List (List ℕ)) (left top x y first r i : ℕ) → left < 300 → left % 6 ≡ 0 → x % 6 ≡ 0
     → x + 6 ≤ 300 → first ≡ (x + left) % 300 → r ≡ (y + top) % 216 → i < 6
     → get_or (take (first + 6 - first) (drop first (get_or rows r []))) i 0
@@ -65,7 +65,7 @@ six_at rows left top x y first r i left_lt left_whole x_whole fits first_is r_is
     ∙ ap₂ (element rows) r_is place
     ∙ sym (at_is rows left top (x + i) y)
 
--- each of them stays
+-- each of them is unchanged
 pub six_kept : (memory : MemoryRows) (x y : ℕ) (drawn : ℕ → ℕ → ℕ)
     → ((i : ℕ) → i < 6 → at memory (x + i) y ≡ drawn i (at memory (x + i) y))
     → Becomes memory (λ x' y'. if y' == y && nat_le x x' && nat_lt x' (x + 6)

@@ -13,13 +13,13 @@ use Rattle.cdg_screen.specs.declared.line_table.TheConstants.{LINES}
 abbrev side_by_side : (ℕ → ℕ) → ℕ
 side_by_side f = f 0 + 256 * f 1 + 65536 * f 2 + 16777216 * f 3 + 4294967296 * f 4 + 1099511627776 * f 5
 
--- one for the bit of a pixel that is set
+-- 1 if the bit of a pixel is set
 abbrev worth : ℕ → ℕ → ℕ
 worth line i = if has_bit (5 - i) line then 1 else 0
 
 -- ---- The table.
 
--- each number below n passes
+-- whether each number below n passes
 unfoldable all_below : (ℕ → Bool) → ℕ → Bool
 all_below p zero = true
 all_below p (suc n) = p n && all_below p n
@@ -133,7 +133,7 @@ at_most : (b : Bool) (d : ℕ) → (if b then d else 0) ≤ d
 at_most true d = omega arith
 at_most false d = omega arith
 
--- what the table has
+-- the entries of the table
 pub line_is : (line found : ℕ) → found ≡ get_or LINES (line % 64) 0
     → ((i : ℕ) → i < 6 → found / 256 ^ i % 256 ≡ worth line i) × (found < 2 ^ 41)
 unfolding IsRight

@@ -1,4 +1,4 @@
--- What stands as lists: the rows of the memory, and sixteen numbers.
+-- A standing as lists: the rows of the memory, and sixteen numbers.
 use Rattle.std.proofs.Common.{◌≡◌, ℕ, ◌<◌, List, [], length, get_or, map, sym, ap, ◌∙◌, arith}
 use Rattle.std.specs.Prelude.{slice_index}
 use Rattle.std.proofs.lemmas.List.{ext_get_or}
@@ -6,7 +6,7 @@ use Rattle.std.proofs.lemmas.List.FromFn.{length-map-range_with_len, get_or-map-
 use Rattle.bit_lists.specs.Counting.{below}
 use Rattle.cdg_screen.specs.Standing.{IsWholeStanding, Standing, pixel_at, rows_of, sixteen, standing_after}
 
--- the same pixels stand in both, at each place of the memory
+-- both memories have the same pixel at each place
 abbrev pub AreSamePixels : (ℕ → ℕ → ℕ) → (ℕ → ℕ → ℕ) → Type 0
 AreSamePixels one other = (x y : ℕ) → x < 300 → y < 216 → one x y ≡ other x y
 
@@ -39,7 +39,7 @@ pub length-sixteen : (number : ℕ → ℕ) → length (sixteen number) ≡ 16
 unfolding sixteen
 length-sixteen number = length-map-range_with_len number 0 16
 
--- rows are those of a function of the place
+-- rows of the right size with the pixels of a function are its rows
 pub rows_are : (rows : List (List ℕ)) (pixel : ℕ → ℕ → ℕ) → length rows ≡ 216
     → ((y : ℕ) → y < 216 → length (get_or rows y []) ≡ 300) → AreSamePixels (pixel_at rows) pixel
     → rows ≡ rows_of pixel
@@ -52,7 +52,7 @@ rows_are rows pixel count widths same =
     let x_lt : x < 300 = omega (arith, widths y y_lt) in
     same x y x_lt y_lt ∙ sym (pixel_of_rows pixel x y x_lt y_lt)))
 
--- and one row of them
+-- and the same for one row
 pub row_is : (row : List ℕ) (pixel : ℕ → ℕ → ℕ) (y : ℕ) → y < 216 → length row ≡ 300
     → ((x : ℕ) → x < 300 → get_or row x 0 ≡ pixel x y) → row ≡ get_or (rows_of pixel) y []
 unfolding pixel_at
@@ -61,7 +61,7 @@ row_is row pixel y lt width same =
     let x_lt : x < 300 = omega (arith, width, x_in) in
     same x x_lt ∙ sym (pixel_of_rows pixel x y x_lt lt))
 
--- and of sixteen numbers
+-- and for sixteen numbers
 pub sixteen_are : (numbers : List ℕ) (number : ℕ → ℕ) → length numbers ≡ 16
     → ((k : ℕ) → k < 16 → slice_index numbers k ≡ number k)
     → numbers ≡ sixteen number
@@ -77,7 +77,7 @@ pub sixteen_same : (one other : ℕ → ℕ) → ((k : ℕ) → k < 16 → one k
 sixteen_same one other same =
     sixteen_are (sixteen one) other (length-sixteen one) (λ k lt. number_of_sixteen one k lt ∙ same k lt)
 
--- the same stands in both, place by place
+-- both standings agree place by place
 pub record IsAlike (one other : Standing) : Type 0 where
   pub memory : AreSamePixels (pixel_at one.memory) (pixel_at other.memory)
   pub border : one.border ≡ other.border
@@ -86,7 +86,7 @@ pub record IsAlike (one other : Standing) : Type 0 where
   pub h : one.h ≡ other.h
   pub v : one.v ≡ other.v
 
--- then it is one value
+-- such standings are equal
 pub one_value : (one other : Standing) → IsWholeStanding one → IsWholeStanding other → IsAlike one other
     → one ≡ other
 one_value one other whole other_whole alike =
@@ -104,7 +104,7 @@ one_value one other whole other_whole alike =
     } in
     sym whole ∙ same ∙ other_whole
 
--- what is built of all rows and numbers is whole
+-- a standing that is built of all rows and numbers is whole
 pub built_is_whole : (pixel : ℕ → ℕ → ℕ) (border : ℕ) (colour level : ℕ → ℕ) (h v : ℕ)
     → IsWholeStanding (record {
       memory = rows_of pixel;

@@ -1,4 +1,4 @@
--- An instruction on what a screen keeps, and what is seen of it.
+-- The effect of an instruction on the state of a screen, and on what it shows.
 use Rattle.std.proofs.Common.{◌&&◌, ◌≤◌, subst, ◌≡◌, inl, inr, ℕ, ◌+◌, ◌-◌, ◌<◌, List, [], ◌∷◌, length, replicate, refl, sym, ap, ◌∙◌, arith}
 use Rattle.std.specs.Prelude.{◌↔◌, nat_le, nat_lt, if◌then◌else◌, slice_index}
 use Rattle.std.proofs.lemmas.Bool.{cases_lt}
@@ -28,7 +28,7 @@ seen_is_whole kept sixteen_colours sixteen_levels =
       v = kept.v;
     }
 
--- an instruction makes one of the other, place by place
+-- an instruction turns `old` into `new`, place by place
 pub record Obeys (instr : Instr) (old new : Kept) : Type 0 where
   pub memory : Becomes new.memory (memory_from (at old.memory) (instr ∷ []))
   pub border : new.border ≡ border_from old.border (instr ∷ [])
@@ -85,7 +85,7 @@ obeys_back instr old new same = record {
   v = ap (λ (now : Standing). now.v) same;
 }
 
--- all stands as it is after an instruction
+-- a standing is unchanged after an instruction, place by place and as a whole
 pub stays : (A : Type 0) (instr : Instr) (now : Kept) → length now.colours ≡ 16 → length now.levels ≡ 16
     → A ↔ Obeys instr now now
     → A ↔ standing_after (seen now) (instr ∷ []) ≡ seen now
@@ -94,7 +94,7 @@ stays A instr now sixteen_colours sixteen_levels as_is = (
   λ same. as_is.1 (obeys_back instr now now (sym same)),
 )
 
--- all is zero
+-- the standing of a screen of zeros is blank
 pub all_zero : (memory : MemoryRows) → Becomes memory (λ x y. 0)
     → seen
     (record { memory = memory; border = 0; colours = replicate 16 0; levels = replicate 16 0; h = 0; v = 0 })
@@ -111,7 +111,7 @@ all_zero memory pixels =
       v = 0;
     }
 
--- an effect makes one of the other, place by place
+-- an effect turns `old` into `new`, place by place
 pub record ObeysBy (effect : Effect) (old new : Kept) : Type 0 where
   pub memory : Becomes new.memory (memory_by effect (at old.memory))
   pub border : new.border ≡ border_by effect old.border
@@ -140,7 +140,7 @@ by_obeys instr old new obeys = record {
   v = obeys.v ∙ sym (ap (λ (o : ℕ × ℕ). o.1) (offsets_are instr (old.h, old.v)));
 }
 
--- of a screen that is seen as `now`, after an instruction that does this
+-- a screen whose standing is `now`, after an instruction with this effect
 pub obeyed_by : (now : Standing) (given : Instr) (effect : Effect) (old new : Kept)
     → seen old ≡ now → effect_of given ≡ effect → length new.colours ≡ 16 → length new.levels ≡ 16
     → ObeysBy effect old new → seen new ≡ standing_after now (given ∷ [])
@@ -157,7 +157,7 @@ stays_by A now given effect kept view is sixteen_colours sixteen_levels as_is =
       λ obeys. as_is.1 (subst (λ e. ObeysBy e kept kept) is (by_obeys given kept kept obeys)),
     ))
 
--- eight colours from a place on that a table has already
+-- eight colours that a table already has change no entry
 
 pub colours_kept : (first : ℕ) (given table : List ℕ)
     → ((k : ℕ) → k < 8 → slice_index given k ≡ slice_index table (first + k))

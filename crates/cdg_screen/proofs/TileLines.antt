@@ -1,4 +1,4 @@
--- A row of the memory in which the six pixels of a line of a tile are written anew.
+-- A row of the memory in which six pixels, one line of a tile, are overwritten.
 use Rattle.std.proofs.Common.{◌≡◌, ◌≢◌, ℕ, ◌+◌, ◌-◌, ◌*◌, ◌/◌, ◌%◌, ◌<◌, ◌≤◌, ◌==◌, ◌&&◌, if◌then◌else◌, List, [], ◌++◌, length, get_or, set, take, drop, All, length-set, length-append, sym, ap, ◌∙◌, inl, inr, arith}
 use Rattle.std.specs.Prelude.{nat_le, nat_lt}
 use Rattle.std.proofs.lemmas.Bool.{cases_eq, cases_lt}
@@ -9,7 +9,7 @@ use borrow.Rule.Slice.PartMut.{put_mid}
 use Rattle.cdg_screen.specs.Memory.{at, IsMemory}
 use Rattle.cdg_screen.proofs.MemoryRows.{element, at_is}
 
--- the elements of a row once six of them are written anew
+-- the elements of a row after six of them are overwritten
 written-at : (old piece : List ℕ) (start count i : ℕ) → start + count ≤ length old → length piece ≡ count
     → get_or (put_mid start count old piece) i 0
     ≡ (if nat_le start i && nat_lt i (start + count) then get_or piece (i - start) 0 else get_or old i 0)
@@ -71,7 +71,7 @@ pub row-below : (rows : List (List ℕ)) (row : List ℕ) (left top r : ℕ)
 row-below rows row left top r g is k d k_lt =
     omega (arith, get_or_default row k d 0 k_lt, ap (λ xs. get_or xs k 0) is, g.colours r k)
 
--- the tile of a column begins so far into a row, and goes on at no other end
+-- the pixels of a tile column are six neighbours in a row that wraps around, and no other pixels are there
 tile_there : (left column x : ℕ) → left % 6 ≡ 0 → left < 300 → column ≤ 49 → x < 300 → x / 6 ≡ column
     → ((6 * column + left) % 300 ≤ (x + left) % 300)
     × ((x + left) % 300 < (6 * column + left) % 300 + 6)

@@ -1,4 +1,4 @@
--- A tile that is drawn, or that leaves each pixel as it is, line by line.
+-- A tile that is drawn, or that leaves each pixel unchanged, line by line.
 use Rattle.std.proofs.Common.{◌≡◌, ◌≢◌, ℕ, ◌+◌, ◌-◌, ◌*◌, ◌/◌, ◌%◌, ◌<◌, ◌≤◌, ◌==◌, ◌&&◌, if◌then◌else◌, Bool, true, List, refl, sym, ap, ap₂, ◌∙◌, inl, inr, arith}
 use Rattle.std.specs.Prelude.{nat_le, nat_lt, slice_index}
 use Rattle.std.proofs.lemmas.Bool.{cases_Bool, cases_eq}
@@ -21,7 +21,7 @@ covers_line row column j x y j_lt row_le column_le y_is low high =
     let down : y / 12 ≡ row = omega arith in
     grind (arith, nat_tests)
 
--- a tile that stays as it is drawn has lines that do
+-- if a tile changes nothing, none of its lines does
 pub line_of_tile : (memory : MemoryRows) (row column colour0 colour1 : ℕ) (lines : List ℕ) (exclusive : Bool)
     (j : ℕ) → j < 12 → row ≤ 17 → column ≤ 49
     → Becomes memory (λ x y. if covers row column x y
@@ -47,7 +47,7 @@ line_of_tile memory row column colour0 colour1 lines exclusive j j_lt row_le col
       | inr outside ↦ rw outside refl
     ]
 
--- a tile is drawn as far as one line more
+-- one more line of a tile is drawn
 pub line_more : (old now new : MemoryRows) (row column colour0 colour1 j : ℕ) (lines pixels : List ℕ)
     (exclusive : Bool) → j < 12 → row ≤ 17 → column ≤ 49
     → ((i : ℕ) → i < 6 → slice_index pixels i ≡ line_colour colour0 colour1 (slice_index lines j) i)
@@ -88,7 +88,7 @@ line_more old now new row column colour0 colour1 j lines pixels exclusive j_lt r
           grind (arith, nat_tests)
     ]
 
--- ---- A tile that is drawn leaves each pixel as it is.
+-- ---- A drawn tile leaves each pixel unchanged.
 
 -- none of its lines
 pub kept_at_first : (memory : MemoryRows) (row column colour0 colour1 : ℕ) (lines : List ℕ) (exclusive : Bool)
@@ -110,7 +110,7 @@ line_holds : (left top j x y : ℕ) → y ≡ top + j → left ≤ x → x < lef
     → (y == top + j && nat_le left x && nat_lt x (left + 6)) ≡ true
 line_holds left top j x y y_is low high = grind (arith, nat_tests)
 
--- one of its lines more
+-- one more line
 pub kept_line : (memory : MemoryRows) (row column colour0 colour1 left top j : ℕ) (lines : List ℕ)
     (exclusive : Bool) → left ≡ 6 * column → top ≡ 12 * row
     → Becomes memory (λ x y. if covers row column x y && nat_lt (y % 12) j
@@ -148,7 +148,7 @@ kept_line memory row column colour0 colour1 left top j lines exclusive left_is t
           ]
     ]
 
--- all of them
+-- all lines
 pub kept_whole : (memory : MemoryRows) (row column colour0 colour1 j : ℕ) (lines : List ℕ) (exclusive : Bool)
     → 12 ≤ j
     → Becomes memory (λ x y. if covers row column x y && nat_lt (y % 12) j

@@ -1,4 +1,4 @@
--- What an instruction leaves as it was.
+-- The pixels that an instruction does not change.
 use Rattle.std.proofs.Common.{◌≡◌, ◌/◌, ◌%◌, ◌==◌, ◌&&◌, ℕ, Bool, true, false, if◌then◌else◌, List, [], ◌∷◌, refl, ap, ◌∙◌, inl, inr, arith}
 use Rattle.std.specs.Prelude.{bit_xor, nat_le}
 use Rattle.std.proofs.lemmas.Bool.{cases_Bool}
@@ -18,7 +18,7 @@ beside now whole = record {
   levels = ap (λ (s : Standing). s.levels) whole;
 }
 
--- what is drawn on a tile by some function of what stood there
+-- a standing after drawing on one tile, by a function of the pixels before
 abbrev drawn : Standing → ℕ → ℕ → (ℕ → ℕ → ℕ → ℕ) → Standing
 drawn now row column draw = record (standing_after now []) {
   memory =

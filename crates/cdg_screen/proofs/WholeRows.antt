@@ -1,4 +1,4 @@
--- Parts of rows that are written over others.
+-- Parts of rows that overwrite others.
 use Rattle.std.proofs.Common.{◌≡◌, ap₂, ℕ, ◌+◌, ◌-◌, ◌%◌, ◌<◌, ◌≤◌, ◌&&◌, if◌then◌else◌, List, ◌++◌, length, get_or, take, drop, replicate, ◌∙◌, ap, refl, sym, inl, inr, arith, length-drop}
 use Rattle.std.specs.Prelude.{min, nat_le, nat_lt}
 use Rattle.std.proofs.lemmas.Bool.{cases_lt}
@@ -20,7 +20,7 @@ pub then_within : (place end x a b : ℕ) → place ≤ x → x < end
     → (if nat_le place x && nat_lt x end then a else b) ≡ a
 then_within place end x a b from lt = grind (arith, nat_tests)
 
--- a number that is one thing between two places, and else another
+-- a number that is `a` between two places, and otherwise `b`
 pub between_places : (place end x v a b : ℕ) → (x < place → v ≡ b) → (place ≤ x → x < end → v ≡ a)
     → (end ≤ x → v ≡ b)
     → v ≡ (if nat_le place x && nat_lt x end then a else b)
@@ -32,11 +32,11 @@ between_places place end x v a b before within behind = elim (cases_lt x place) 
   ]
 ]
 
--- a part of a list is as many numbers
+-- the length of a part of a list
 pub length-part : (xs : List ℕ) (at k : ℕ) → at + k ≤ length xs → length (take k (drop at xs)) ≡ k
 length-part xs at k fits = length-take-le k (drop at xs) (omega (arith, length-drop at xs, fits))
 
--- a number of a list of which a part was written
+-- a number of a list in which a part was overwritten
 pub piece_put : (at k : ℕ) (xs ys : List ℕ) (n : ℕ) → at + length ys ≤ length xs → k ≡ length ys
     → get_or (put_mid at k xs ys) n 0
     ≡ (if nat_le at n && nat_lt n (at + length ys) then get_or ys (n - at) 0 else get_or xs n 0)
@@ -54,7 +54,7 @@ piece_put at k xs ys n fits is =
     ∙ get_or-drop at xs (k + (n - at - length ys)) 0
     ∙ ap (λ i. get_or xs i 0) (omega (arith, past, is)))
 
--- a number of a list of which a part became one number
+-- a number of a list in which a part was filled with one number
 pub filled_part : (from to colour : ℕ) (xs ys : List ℕ) (i : ℕ) → from ≤ to → to ≤ length xs
     → ys ≡ replicate (length (take (to - from) (drop from xs))) colour
     → get_or (put_mid from (to - from) xs ys) i 0
@@ -74,7 +74,7 @@ filled_part from to colour xs ys i order fits is =
     (omega (arith, lt, after, length-part xs from (to - from) (omega (arith, order, fits)))))
     (λ past. put ∙ else_behind from (from + length ys) i _ _ (omega (arith, past, size, order)))
 
--- Pixels of a row that begins at a moving place, of which those up to its end come first,
+-- A pixel of a part of a row that begins at a moving place: from the pixels up to the end of the row,
 pub front_columns : (row one old : List ℕ) (x left first count k i : ℕ) → length row ≡ 300 → left < 300
     → first ≡ (x + left) % 300 → first + count ≤ 300 → k ≡ count → x + i < 300 → i < count
     → get_or one i 0
@@ -91,7 +91,7 @@ front_columns row one old x left first count k i size left_lt first_is fits k_is
     ∙ get_or-drop first row (i - 0) 0
     ∙ ap (λ n. get_or row n 0) (omega (arith, lt, fits, first_is, left_lt, x_lt))
 
--- and those at its front behind them.
+-- or from those at its front, which follow them.
 pub turned_columns : (row one two : List ℕ) (x left first count rest i : ℕ) → length row ≡ 300 → left < 300
     → first ≡ (x + left) % 300 → first + count ≡ 300 → x + i < 300 → i < count + rest → rest ≤ 300
     → (i < count → get_or one i 0 ≡ get_or row ((x + i + left) % 300) 0)
@@ -111,7 +111,7 @@ turned_columns row one two x left first count rest i size left_lt first_is full 
           ∙ ap (λ n. get_or row n 0) (omega (arith, late, lt, full, first_is, left_lt, x_lt))
     ]
 
--- numbers that are small where they come from are small
+-- a choice between numbers below 16 is below 16
 pub small_between : (v a b place end x : ℕ) → v ≡ (if nat_le place x && nat_lt x end then a else b) → a < 16
     → b < 16
     → v < 16
@@ -123,8 +123,7 @@ small_between v a b place end x is a_lt b_lt = elim (cases_lt x place) [
   ]
 ]
 
--- Pixel i of columns of a row: the border up to `left`, what was copied from there to `right`, and the border
--- behind it.
+-- Pixel i of the columns of a row: the border up to `left`, then a copied part up to `right`, then the border.
 pub columns_are : (x left right end i border : ℕ) (old first copied third : List ℕ) → left ≡ 6 - x
     → right ≡ min (294 - x) end → left < right → length first ≡ end → length copied ≡ right - left → i < end
     → get_or first i 0 ≡ (if nat_le 0 i && nat_lt i left then border else get_or old i 0)
@@ -152,7 +151,7 @@ columns_are x left right end i border old first copied third left_is right_is or
     (omega (arith, early, right_is, lt, two_size, order)))
     (λ past. last ∙ then_within right end i _ _ (omega (arith, past, right_is)) lt)
 
--- a pixel of a row that goes through the window
+-- a pixel of a row that crosses the window
 pub window_row : (kept : Kept) (x y h v shown new : ℕ) → h ≡ kept.h → v ≡ kept.v → x < 300 → 12 ≤ y → y < 204
     → kept.h ≤ 5 → kept.v ≤ 11 → (6 ≤ x → x < 294 → shown ≡ at kept.memory (x + h) (y + v))
     → new ≡ (if nat_le 6 x && nat_lt x 294 then shown else kept.border)

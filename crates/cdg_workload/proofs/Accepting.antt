@@ -44,7 +44,7 @@ accept_greys (suc m) a n before rest within =
 abbrev pub times : ℕ → ℕ × ℕ
 times k = (800 * (k + 1), 800 * (k + 1) + 20)
 
--- so many pictures have been shown
+-- the first k pictures have been shown
 abbrev pub Stands : ℕ → List Drawing → Type 0
 Stands k before = shows before ≡ map times (below k)
 

@@ -1,4 +1,4 @@
--- Scratches of a stream with no lead-in, block by block.
+-- Scratches in a stream with no lead-in, block by block.
 use Rattle.std.proofs.Common.{◌≡◌, ℕ, suc, ◌+◌, ◌*◌, ◌/◌, ◌≤◌, List, [], ◌∷◌, ◌++◌, length, take, drop, Some, refl, sym, ap, ◌∙◌, arith, length-drop}
 use Rattle.std.proofs.Math.Seq.{take-add, drop-append_seam, take-append_seam}
 use Rattle.std.proofs.lemmas.List.{take-append-drop, length-take-le}
@@ -14,7 +14,7 @@ use Rattle.cdg_workload.proofs.BlockRuns.{changed_is, change_at-lt}
 abbrev state : Needle → List ℕ → Needle
 state needle xs = run_state byte_next needle xs
 
--- a needle that has begun nothing yet
+-- a needle before its first byte
 abbrev fresh : ℕ → Needle
 fresh seed = at 0 0 0 (generator seed)
 
@@ -23,7 +23,7 @@ unfolding byte_gives
 length-run h [] = refl
 length-run h (x ∷ xs) = ap suc (length-run (byte_next h x) xs)
 
--- the stream with scratches is what a needle gives for all its bytes
+-- the stream with scratches is the output of a needle for all its bytes
 scratched_is_run : (seed : ℕ) (bytes : List ℕ) → scratched 0 seed bytes ≡ run (fresh seed) bytes
 unfolding scratched
 scratched_is_run seed bytes =
@@ -32,7 +32,7 @@ scratched_is_run seed bytes =
     sym (scratches_all bytes count w (omega arith)
     ∙ changed_is (bursts count 0 w) 0 bytes (change_at-lt count 0 w))
 
--- some bytes of a run, after those before them
+-- a part of a run is the run from the state before it
 part_of_run : (h : Needle) (bytes : List ℕ) (k m : ℕ) → k + m ≤ length bytes
     → take m (drop k (run h bytes)) ≡ run (state h (take k bytes)) (take m (drop k bytes))
 part_of_run h bytes k m fits =

@@ -85,7 +85,7 @@ lead_in_next l h b =
     ap (λ (t : Bool). cond t (stage (suc l) (state h b)) (stage (suc l - 1) h)) more
     ∙ ap (λ n. stage n h) less
 
--- the stage after blocks: less of the lead-in to come, and the needle after each byte behind it
+-- the stage after some blocks: the rest of the lead-in, and the needle after each byte behind it
 pub stream_state : (l k : ℕ) (h : Needle) (blocks : List (List ℕ)) → k ≡ 96 * l
     → AllByRecursion (λ (b : List ℕ). length b ≡ 96) blocks
     → run_state block_next (stage l h) blocks
@@ -213,7 +213,7 @@ streams_from lead_in seed moved (Err stop) taken begins pumps =
     (λ bytes n few whole.
     (record { units = n }, text_from lead_in seed moved.state.before n bytes begins whole)) pumps
 
--- what a pump of the stage does is what the call promises
+-- a pump of the stage does what the clauses of the call say
 pub streams : (lead_in seed : ℕ) (moved : Moved Scratches) (result : Result Pumped PumpStop) (taken : List ℕ)
     → moved.state.before ≡ fresh_scratches lead_in seed
     → Pumps (scratching lead_in seed).cut (machine_of block_next block_gives) moved result taken
@@ -221,7 +221,7 @@ pub streams : (lead_in seed : ℕ) (moved : Moved Scratches) (result : Result Pu
 streams lead_in seed moved result taken begins pumps =
     streams_from lead_in seed moved result taken begins pumps
 
--- ---- Runs of symbols that stay.
+-- ---- Runs of unchanged symbols.
 
 pass_run : (ys : List ℕ) (g l c : ℕ) (w : Lcg) → length ys ≤ g
     → (at (g - length ys) l c w ≡ state (at g l c w) ys) × (ys ≡ run (at g l c w) ys)
@@ -236,14 +236,14 @@ pass_run (y ∷ ys) (suc g) l c w fits =
           ∙ ap (λ o. give o (run (byte_next (at (suc g) l c w) y) ys)) (sym (gives_before g l c w y)),
     )
 
--- a block before the next burst stays
+-- a block before the next burst is unchanged
 pub skipped : (s t : Needle) (block : List ℕ) → length block ≡ 96 → 96 ≤ s.gap
     → t ≡ record s { gap = s.gap - 96 } → (t ≡ state s block) × (block ≡ run s block)
 skipped s t block size before is =
     let (after, given) = pass_run block s.gap s.left s.change s.words (omega (arith, size, before)) in
     (is ∙ ap (λ n. at (s.gap - n) s.left s.change s.words) (sym size) ∙ after, given)
 
--- so does what is given for it
+-- and so is the output of the stage for it
 pub block_skipped : (s : Scratches) (t : Needle) (block : List ℕ) → s.lead_in ≡ 0 → length block ≡ 96
     → 96 ≤ s.needle.gap → t ≡ record s.needle { gap = s.needle.gap - 96 }
     → (stage s.lead_in t ≡ block_next s block) × (Some block ≡ block_gives s block)
@@ -260,7 +260,7 @@ block_skipped s t block none size before is =
 
 -- ---- Runs of symbols that a burst changes.
 
--- sixteen symbols are changed, and those of them put back that stay
+-- sixteen symbols are changed, and those that must not change are restored
 pub combined_few : (old mid kept : List ℕ) (from to n c : ℕ) → length mid ≡ length old → n ≡ 16
     → from ≤ to → to ≤ from + 16 → to + 16 ≤ length old
     → take (from + 16) mid ≡ take from old
@@ -297,21 +297,21 @@ combined_few old mid kept from to n c size sixteen order few within changed rest
           ∙ ap₂ (λ (l r : List ℕ). l ++ r) kept_is behind ∙ take-append-drop 16 (drop to old),
     )
 
--- the bytes from a place on begin with the same
+-- lists that agree from a place have the same byte there
 first_same : (i : ℕ) (now old : List ℕ) → drop i now ≡ drop i old → get_or now i 0 ≡ get_or old i 0
 first_same i now old rest =
     let place : i ≡ i + 0 = omega arith in
     ap (λ k. get_or now k 0) place ∙ sym (get_or-drop i now 0 0) ∙ ap (λ (l : List ℕ). get_or l 0 0) rest
     ∙ get_or-drop i old 0 0 ∙ ap (λ k. get_or old k 0) (sym place)
 
--- no symbol is changed yet
+-- no symbol has been changed
 pub combined_none : (old : List ℕ) (from n c : ℕ) → n ≡ 0
     → take from old ≡ take from old ++ map (λ byte. bit_xor byte c) (take n (drop from old))
 combined_none old from n c none =
     sym (ap (λ k. take from old ++ map (λ byte. bit_xor byte c) (take k (drop from old))) none
     ∙ append-nil (take from old))
 
--- one symbol more is changed
+-- one more symbol is changed
 pub combined_more : (old now : List ℕ) (from i c : ℕ) → length now ≡ length old → from ≤ i → i < length old
     → take i now ≡ take from old ++ map (λ byte. bit_xor byte c) (take (i - from) (drop from old))
     → drop i now ≡ drop i old
@@ -359,7 +359,7 @@ struck_run [] g l c w fits begun = let none : l - 0 ≡ l = omega arith in (ap (
 struck_run (y ∷ ys) zero l c w fits begun = within_run (y ∷ ys) l c w fits
 struck_run (y ∷ ys) (suc g) l c w fits begun = absurd (omega (arith, begun (omega arith)))
 
--- a needle that is ready for the next symbol goes on as before
+-- a needle that is ready for the next symbol continues as before
 ready_run : (t : Needle) (ys : List ℕ) → 0 < length ys
     → (state (ready t) ys ≡ state t ys) × (run (ready t) ys ≡ run t ys)
 unfolding byte_next byte_gives
@@ -370,7 +370,7 @@ ready_run t (y ∷ ys) some =
       ap (λ n. give (Some (bit_xor y (change_now n))) (run (past_byte n) ys)) same,
     )
 
--- m symbols that stay and n that a burst changes, from a needle that is ready
+-- m symbols before a burst and n symbols in it, from a needle that is ready
 burst_run : (r t u : Needle) (ys zs : List ℕ) → length ys ≤ r.gap → t ≡ record r { gap = r.gap - length ys }
     → length zs ≤ t.left → (0 < length zs → t.gap ≡ 0) → u ≡ record t { left = t.left - length zs }
     → (u ≡ state r (ys ++ zs)) × (ys ++ map (λ byte. bit_xor byte u.change) zs ≡ run r (ys ++ zs))
@@ -385,7 +385,7 @@ burst_run r t u ys zs before passed few begun struck =
           ∙ sym (run_gives-append byte_next byte_gives r ys zs),
     )
 
--- m symbols before a burst and n of it, from a place on
+-- m symbols before a burst and n symbols in it, from a place
 pub burst_at : (r t u : Needle) (old new : List ℕ) (i m n : ℕ) → i + m + n ≤ length old
     → m ≤ r.gap → t ≡ record r { gap = r.gap - m }
     → n ≤ t.left → (0 < n → t.gap ≡ 0) → u ≡ record t { left = t.left - n }
@@ -414,7 +414,7 @@ burst_at r t u old new i m n fits before passed few begun struck changed =
           ∙ ap (λ (l : List ℕ). take i old ++ l) (given ∙ ap (run r) (sym part)),
     )
 
--- some symbols more, after those before them
+-- some more symbols, after those before them
 pub run_more : (s t r u : Needle) (block old new : List ℕ) (i k : ℕ) → i < k → k ≤ length block
     → r ≡ ready t → u ≡ state r (take (k - i) (drop i old))
     → take k new ≡ take i old ++ run r (take (k - i) (drop i old)) → drop k new ≡ drop k old
@@ -438,7 +438,7 @@ run_more s t r u block old new i k further fits is after given kept now done res
       kept ∙ later old ∙ ap (drop (k - i)) rest ∙ sym (later block),
     )
 
--- the same of all symbols before a burst and all of it
+-- the same for all symbols before a burst and the whole burst
 pub whole_burst : (r : Needle) (old new : List ℕ) (i : ℕ) → i + r.gap + r.left ≤ length old
     → take (i + r.gap + r.left) new ≡ take (i + r.gap) old
     ++ map (λ byte. bit_xor byte r.change) (take (i + r.gap + r.left - (i + r.gap)) (drop (i + r.gap) old))
@@ -450,7 +450,7 @@ whole_burst r old new i fits changed =
     (omega arith) (ap (λ n. at n r.left r.change r.words) (none r.gap)) (omega arith) (λ some. refl)
     (ap (λ n. at 0 n r.change r.words) (none r.left)) changed
 
--- a needle that is ready has symbols before a burst, or of one
+-- a needle that is ready has symbols before or in a burst
 pub some_ready : (t r : Needle) → r ≡ ready t → 0 < r.gap + r.left
 some_ready t r is =
     subst (λ (n : Needle). 0 < n.gap + n.left) (sym is) (ready_some t.gap t.left t.change t.words)

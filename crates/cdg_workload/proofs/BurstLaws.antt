@@ -1,4 +1,4 @@
--- What scratches change of a stream are bursts.
+-- Scratches change a stream in bursts.
 use Rattle.std.proofs.Common.{◌≡◌, ℕ, zero, suc, ◌+◌, ◌*◌, ◌/◌, ◌%◌, ◌<◌, ◌≤◌, false, ◌||◌, List, [], ◌∷◌, ◌++◌, length, get_or, take, drop, map, bit_xor, cond, refl, sym, ap, ap₂, ◌∙◌, inl, inr, lit<, mod-lt, arith}
 use Rattle.std.proofs.Math.Seq.{take-append-add, drop-append-add}
 use Rattle.std.proofs.lemmas.Bool.{cases_lt, cases_Bool, true≢false}

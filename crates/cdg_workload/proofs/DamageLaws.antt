@@ -1,4 +1,4 @@
--- In a stream of whole blocks, scratches are damage of at most two symbols a word.
+-- Scratches damage at most two symbols of each word, if the stream has whole blocks.
 use Rattle.std.proofs.Common.{◌≡◌, ℕ, zero, suc, ◌+◌, ◌-◌, ◌*◌, ◌/◌, ◌%◌, List, [], ◌++◌, length, take, drop, map, flat_map, refl, sym, ap, subst₂, ◌∙◌, length-drop, arith}
 use Rattle.std.proofs.Math.Seq.{drop-nil}
 use Rattle.std.proofs.lemmas.List.{drop-drop, length-map, map-append, nil_from_length, take-append-drop}
@@ -38,7 +38,7 @@ length-scratched lead_in seed bytes =
     sym (length-map (scratched lead_in seed bytes) (λ byte. byte / 64))
     ∙ ap length (channels_stay lead_in seed bytes) ∙ length-map bytes (λ byte. byte / 64)
 
--- what the law on bursts says
+-- the law about bursts
 abbrev pub BurstsAreDamage : Type 0
 BurstsAreDamage = (blocks : ℕ) (symbols others : List ℕ) → length symbols ≡ 96 * blocks
     → DiffersInBursts symbols others → IsDamaged symbols Raw others

@@ -1,4 +1,4 @@
--- The pictures of a script, by the generator where it stands.
+-- The pictures of a script, from the state of the generator.
 use Rattle.std.proofs.Common.{◌≡◌, ℕ, zero, suc, ◌+◌, ◌*◌, List, [], ◌++◌, refl, sym, ap, ap₂, ◌∙◌, append_assoc, arith}
 use Rattle.std.proofs.lemmas.List.{append-nil}
 use Rattle.rand_pcg.specs.Lcg.{Lcg, next_state, state_after, advance}
@@ -13,7 +13,7 @@ unfolding state_after
 state_next w m increment zero state = refl
 state_next w m increment (suc n) state = state_next w m increment n (next_state w m increment state)
 
--- n words on
+-- the generator after n words
 abbrev pub after : ℕ → Lcg → Lcg
 after n words = advance 64 multiplier_64 n words
 

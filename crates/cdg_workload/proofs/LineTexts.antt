@@ -1,4 +1,4 @@
--- The lines of a generated script, without their line feeds, and what they are read as.
+-- The lines of a generated script, without their line feeds, and what each line says.
 use Rattle.std.proofs.Common.{◌≡◌, ℕ, suc, ◌+◌, ◌-◌, ◌*◌, ◌/◌, ◌%◌, ◌<◌, ◌≤◌, Bool, true, false, not, ◌&&◌, ◌||◌, ◌==◌, cond, nat_le, nat_lt, List, [], ◌∷◌, ◌++◌, length, get_or, Some, None, Ok, decimal, codes, refl, ap, ap₂, ◌∙◌, append_assoc, lit<, mod-lt, arith}
 use Rattle.std.proofs.Math.Dec.{eqb-suc-zero}
 use Rattle.std.proofs.lemmas.Bool.{and_from, and_parts, le-leb, lt-leb, lt-ltb, le-ltb, leb-true, eqb-true, false≢true}
@@ -19,7 +19,7 @@ use Rattle.cdg_workload.specs.Generated.{grey, rect}
 use Rattle.cdg_workload.proofs.Splitting.{all_from, next_word, last_word}
 use Rattle.cdg_workload.proofs.Numerals.{decimal_graphic, decimal_some, number_of_decimal}
 
--- The line is printable and says this after the lines before.
+-- The line is printable, and after the earlier lines it says `said`.
 pub record IsAccepted (before : List Drawing) (line : List ℕ) (said : Drawing) : Type 0 where
   pub printable : all_from 32 line ≡ true
   pub heard : is_passed_over line ≡ false

@@ -1,4 +1,4 @@
--- What a needle changes are the bursts that its generator makes.
+-- A needle makes exactly the bursts of its generator.
 use Rattle.std.proofs.Common.{◌≡◌, ◌⊎◌, ℕ, zero, suc, ◌+◌, ◌-◌, ◌*◌, ◌%◌, ◌<◌, ◌≤◌, Bool, false, ◌&&◌, ◌==◌, cond, List, [], ◌∷◌, length, bit_xor, Some, refl, sym, ap, ap₂, ◌∙◌, inl, inr, arith}
 use Rattle.std.proofs.lemmas.Bool.{cases_lt, ne_eqb, le-leb, lt-leb, lt-ltb, le-ltb}
 use Rattle.std.specs.Prelude.{nat_lt}
@@ -53,7 +53,7 @@ pub gives_within : (l c : ℕ) (w : Lcg) (b : ℕ) → byte_gives (at 0 (suc l) 
 unfolding byte_gives change_now
 gives_within l c w b = ap (λ n. Some (bit_xor b (change_now n))) (ready_within l c w)
 
--- the places before the next burst, less one
+-- the number of places before the next burst, minus one
 abbrev gap_less : Lcg → ℕ
 gap_less words = 191 + (pcg32 words).0 % 64
 
@@ -64,7 +64,7 @@ drawn_is w =
     let e : 192 + (pcg32 w).0 % 64 ≡ suc (191 + (pcg32 w).0 % 64) = omega arith in
     ap (λ n. at n (size_of (pcg32 w).0) (change_of (pcg32 w).0) (pcg32 w).1) e
 
--- behind a burst at least 192 symbols stay
+-- after a burst, at least 192 symbols are unchanged
 pub ready_gap : (t : Needle) → t.gap ≡ 0 → t.left ≡ 0 → 192 ≤ (ready t).gap
 unfolding ready next_needle
 ready_gap t none ended =
@@ -73,7 +73,7 @@ ready_gap t none ended =
     let gap : (ready t).gap ≡ gap_of (pcg32 t.words).0 = ap (λ (n : Needle). n.gap) drawn in
     omega (arith, gap)
 
--- a needle that is ready stays so
+-- a needle that is ready is unchanged by `ready`
 pub ready_again : (g l c : ℕ) (w : Lcg) → ready (ready (at g l c w)) ≡ ready (at g l c w)
 ready_again (suc g) l c w = ap ready (ready_before g l c w)
 ready_again zero (suc l) c w = ap ready (ready_within l c w)
@@ -81,7 +81,7 @@ ready_again zero zero c w =
     let r : Needle = ready (at 0 0 c w) in
     ready_stays r.gap r.left r.change r.words (omega (arith, ready_gap (at 0 0 c w) refl refl))
 
--- it has symbols before a burst, or of one
+-- a needle that is ready has symbols before or in a burst
 pub ready_some : (g l c : ℕ) (w : Lcg) → 0 < (ready (at g l c w)).gap + (ready (at g l c w)).left
 ready_some (suc g) l c w = omega (arith, ap (λ (n : Needle). n.gap) (ready_before g l c w))
 ready_some zero (suc l) c w = omega (arith, ap (λ (n : Needle). n.left) (ready_within l c w))
@@ -138,7 +138,7 @@ bursts_later (suc n) e w q lt =
     (bursts n (first + size_of word) (pcg32 w).1) q (inl (omega arith))
     ∙ bursts_later n (first + size_of word) (pcg32 w).1 q (omega arith)
 
--- the bytes from a place on, changed
+-- the bytes from place p on, with the changes of the bursts
 unfoldable pub changed_from : List Burst → ℕ → List ℕ → List ℕ
 changed_from those p [] = []
 changed_from those p (x ∷ xs) = bit_xor x (change_at those p) ∷ changed_from those (p + 1) xs
@@ -154,7 +154,7 @@ changed_same those others p (x ∷ xs) same =
 
 -- ---- The run of a needle.
 
--- the bursts of a needle at a place, of which so many are still to be made
+-- the bursts of a needle at place p, of which n more follow after this one
 abbrev pub bursts_at : ℕ → ℕ → ℕ → ℕ → ℕ → Lcg → List Burst
 bursts_at p n g l c w = record { first = p + g; size = l; change = c } ∷ bursts n (p + g + l) w
 
@@ -231,7 +231,7 @@ scratches (x ∷ xs) p (suc n) zero zero c w room =
     ∙ sym (skips (record { first = p + 0; size = 0; change = c }) (bursts (suc n) (p + 0 + 0) w) q
     (inr (omega arith))))
 
--- a needle that has begun nothing yet makes the bursts of its generator
+-- a needle before its first byte makes the bursts of its generator
 pub scratches_all : (xs : List ℕ) (n : ℕ) (w : Lcg) → length xs ≤ 192 * n
     → run (at 0 0 0 w) xs ≡ changed_from (bursts n 0 w) 0 xs
 scratches_all xs n w room =

@@ -1,4 +1,4 @@
--- A generated script as a text of lines, and what it is read as.
+-- A generated script as a text of lines, and what this text says.
 use Rattle.std.proofs.Common.{◌≡◌, ℕ, zero, suc, ◌+◌, ◌*◌, ◌<◌, ◌≤◌, true, List, [], ◌∷◌, ◌++◌, map, flat_map, refl, sym, ap, ap₂, ◌∙◌, append_assoc, lit<, arith}
 use Rattle.std.proofs.lemmas.Bool.{and_from}
 use Rattle.std.proofs.lemmas.List.{append-nil}
@@ -83,7 +83,7 @@ script_text seed count =
     ap₂ (λ (x y : List ℕ). x ++ y) (greys_text 16 0) (pictures_text seed count 0)
     ∙ sym (text_of-append (map grey_text (below 16)) (flat_map (picture_texts seed) (below count)))
 
--- ---- All lines are printable, and no mark stands in front.
+-- ---- All lines are printable, and the text does not begin with a byte order mark.
 
 greys_printable : (m a : ℕ) → a + m ≤ 16 → list_all (all_from 32) (map grey_text (range_with_len a m)) ≡ true
 greys_printable zero a within = refl
@@ -117,7 +117,7 @@ nothing_shown : Stands 0 (map grey (below 16))
 unfolding shows
 nothing_shown = refl
 
--- ---- What is read.
+-- ---- What the text says.
 
 pub script_is_read : (seed count : ℕ) → count ≤ 500
     → read_script (generated_script seed count) ≡ result (generated_drawings seed count)

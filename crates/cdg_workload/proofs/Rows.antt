@@ -1,4 +1,4 @@
--- Blocks that stand one behind another, and that the stage goes over where they stand.
+-- Blocks of a row, which the stage changes in place.
 use Rattle.std.proofs.Common.{◌≡◌, ℕ, min, ◌+◌, ◌-◌, ◌*◌, ◌≤◌, inl, inr, List, [], ◌++◌, length, take, drop, Some, refl, sym, ap, ap₂, ◌∙◌, append-nil, length-drop, length-take-le, take_all, arith}
 use Rattle.std.proofs.lemmas.Bool.{cases_lt}
 use Rattle.std.proofs.lemmas.List.{drop_all, take_rest, take-append-drop}
@@ -15,7 +15,7 @@ use Rattle.cdg_workload.specs.declared.scratching.Scratches.{Scratches}
 use Rattle.cdg_workload.proofs.Needles.{run}
 use Rattle.cdg_workload.proofs.BlockRuns.{stage, state, stream_blocks, stream_state, units_counted, units_joined, units_sized}
 
--- what is cut behind the end is cut at it
+-- a cut behind the end is a cut at the end
 cut_alike : (bytes : List ℕ) (n l m k : ℕ) → length bytes ≡ 96 * n → m ≡ min l n → k ≡ 96 * m
     → take (96 * l) bytes ≡ take k bytes
 cut_alike bytes n l m k size few place =
@@ -36,7 +36,7 @@ left_alike bytes n l m k size few place =
       | inr long ↦ ap (λ c. drop c bytes) (omega (arith, long, few, place))
     ]
 
--- blocks that stand one behind another: those of the lead-in stay, and a needle goes over the bytes behind them
+-- the blocks of a row: the lead-in is unchanged, and a needle changes the bytes behind it
 row_of_blocks : (s : Scratches) (bytes : List ℕ) (n m k : ℕ) → length bytes ≡ 96 * n → m ≡ min s.lead_in n
     → k ≡ 96 * m
     → (stage (s.lead_in - m) (state s.needle (drop k bytes))
@@ -60,7 +60,7 @@ row_of_blocks s bytes n m k size few place =
           ∙ ap₂ (λ (a b : List ℕ). a ++ run s.needle b) front behind),
     )
 
--- the same of a needle that went over the part of a row behind the lead-in
+-- the same, for a needle that changed the part of a row behind the lead-in
 pub row_scratched : (s : Scratches) (t : Needle) (bytes part new : List ℕ) (n m k : ℕ) → length bytes ≡ 96 * n
     → m ≡ min s.lead_in n → k ≡ 96 * m → part ≡ take (length bytes - k) (drop k bytes)
     → t ≡ state s.needle part → new ≡ run s.needle part

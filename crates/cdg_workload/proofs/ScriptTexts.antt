@@ -24,7 +24,7 @@ on_err (Err e) P p = p
 
 -- ---- Pieces of a line.
 
--- so many pieces one after another
+-- five pieces one after another
 pub five_joined : (l l1 l2 l3 l4 l5 a b c d e : List ℕ) → l1 ≡ l ++ a → l2 ≡ l1 ++ b → l3 ≡ l2 ++ c
     → l4 ≡ l3 ++ d → l5 ≡ l4 ++ e → l5 ≡ l ++ (a ++ b ++ c ++ d ++ e)
 five_joined l l1 l2 l3 l4 l5 a b c d e e1 e2 e3 e4 e5 =
@@ -60,7 +60,7 @@ unfolding show_text generated_show_line
 show_text_is k ready hold ready_is hold_is =
     ap₂ (λ (r h : List ℕ). codes "show " ++ r ++ codes " " ++ h ++ line_feed) ready_is hold_is
 
--- a rectangle by the halves of its two words
+-- a rectangle from the halves of two words of the generator
 unfoldable pub halves_text : ℕ → ℕ → ℕ → ℕ → ℕ → List ℕ
 halves_text x y w h size =
     codes "rect " ++ decimal (x % 288) ++ codes " " ++ decimal (y % 192) ++ codes " " ++ decimal

@@ -7,11 +7,11 @@ use Rattle.std.specs.List.{slice_split, onto_first, list_all, filter}
 use Rattle.std.specs.Str.Lines.{lines_of_parts, strip_carriage_return}
 use Rattle.text_lines.specs.Text.{is_blank, is_some_bytes, words_in, lines_in}
 
--- bytes of at least this number
+-- whether all bytes are at least this number
 abbrev pub all_from : ℕ → List ℕ → Bool
 all_from least bytes = list_all (λ b. nat_le least b) bytes
 
--- a part before a separator
+-- the part before a separator
 cut_at : (p : ℕ → Bool) (least separator : ℕ) → p separator ≡ true → ((b : ℕ) → least ≤ b → p b ≡ false)
     → (w rest : List ℕ) → all_from least w ≡ true
     → slice_split p (w ++ separator ∷ rest) ≡ w ∷ slice_split p rest

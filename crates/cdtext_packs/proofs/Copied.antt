@@ -1,4 +1,4 @@
--- What is kept of copies of packs.
+-- The kept packs, after copies of packs were offered.
 use Rattle.std.proofs.Common.{◌≡◌, ℕ, zero, suc, ◌-◌, ◌<◌, ◌≤◌, Bool, true, false, ◌&&◌, ◌==◌, List, [], ◌∷◌, ◌++◌, length, get_or, replicate, map, find, All, Option, Some, None, inl, inr, refl, sym, ap, ◌∙◌, subst, arith}
 use Rattle.std.proofs.lemmas.List.{ext_get_or, length-append, length-map, length-replicate, get_or_append_left, get_or-append_right, get_or-replicate}
 use Rattle.std.proofs.lemmas.List.FromFn.{length-map-range_with_len}
@@ -95,7 +95,7 @@ module _ (texts : Texts) (offered : List (List ℕ)) (are : AreCopies texts offe
       ap is_good (pack_is n inside)
       ∙ seal_good n (get_or (contents texts) n none_content) (content_is n inside)
 
-  -- a good pack of the offered ones is the pack with its number
+  -- a good pack among the offered packs is the authored pack with its number
   only_one : (i : ℕ) → i < length offered → is_good (get_or offered i []) ≡ true
       → (pack_number (get_or offered i []) < length (packs_of texts))
       × (get_or offered i [] ≡ get_or (packs_of texts) (pack_number (get_or offered i [])) [])

@@ -14,7 +14,7 @@ use Rattle.cdtext_packs.specs.declared.kinds.TextKind.{TextKind}
 abbrev pieces : List ℕ → List (List ℕ)
 pieces bytes = slice_split is_zero bytes
 
--- after n strings, this is left of the bytes
+-- `rest` is left of the bytes after n strings
 pub record IsCut (bytes rest : List ℕ) (strings : List (List ℕ)) (n : ℕ) : Type 0 where
   pub done : strings ≡ resolved (strings_in n bytes)
   pub left : slice_split is_zero rest ≡ drop n (slice_split is_zero bytes)
@@ -27,7 +27,7 @@ unfolding resolved
 cut_none bytes size =
     record { done = refl; left = refl; count = refl; each = λ k d less. absurd (omega arith); size = size }
 
--- a place that is not within the list is its length
+-- the first place that passes, or the length of the list
 pub place_from : (p : ℕ → Bool) (xs : List ℕ) (r : Option ℕ) (result : ℕ)
     → r ≡ cond (nat_lt (position_or_len p xs) (length xs)) (Some (position_or_len p xs)) None
     → result ≡ unwrap_or r (length xs)
@@ -130,7 +130,7 @@ cut_more bytes rest after strings more string n cut some is grown next =
     pushed : (xs : List (List ℕ)) (x : List ℕ) (n : ℕ) → length xs ≡ n → length (xs ++ x ∷ []) ≡ n + 1
     pushed xs x n e = length_push xs x ∙ ap (λ (k : ℕ). k + 1) e
 
--- where no kind is short, one with bytes has as many strings as are wanted
+-- if no kind is short, a kind with bytes has as many strings as it needs
 pub enough_ends : (kept : List (Option (List ℕ))) (count : ℕ) (kind : TextKind)
     → is_short kept count kind ≡ false → (length (kind_bytes kept kind) ≡ 0 → ⊥)
     → count ≤ ends_in (kind_bytes kept kind)

@@ -1,4 +1,4 @@
--- Bytes that are cut by twelve and put together again, and strings that are cut at their zero bytes.
+-- Bytes cut into parts of twelve and joined again, and strings cut at their zero bytes.
 use Rattle.std.proofs.Common.{◌≡◌, ◌≢◌, ℕ, zero, suc, ◌+◌, ◌-◌, ◌*◌, ◌/◌, ◌≤◌, true, false, not, ◌&&◌, ◌==◌, if◌then◌else◌, List, [], ◌∷◌, ◌++◌, length, take, get_or, replicate, flat_map, fold, All, inl, inr, refl, sym, ap, ◌∙◌, arith}
 use Rattle.std.specs.List.{slice_split, sum_by}
 use Rattle.std.proofs.Math.Seq.{take-add, take-append-add}
@@ -14,7 +14,7 @@ use Rattle.cdtext_packs.specs.Texts.{are_empty, IsString}
 use Rattle.cdtext_packs.specs.Writing.{joined, twelve}
 use Rattle.cdtext_packs.specs.Reading.{is_zero, ends_in, strings_in, meant, resolved}
 
--- the elements of a list but the first
+-- the first element of a list, and the others
 pub all_first : {X : Type 0} (P : X → Type 0) (x : X) (xs : List X) → All P (x ∷ xs) → P x
 all_first P x xs all = All-get_or P (x ∷ xs) 0 x (omega arith) all
 
@@ -27,7 +27,7 @@ below_more k =
     ∙ map-range_with_len_more (λ (n : ℕ). n) 0 k k (omega arith)
     ∙ ap (λ (xs : List ℕ). xs ++ k ∷ []) (map-id (below k))
 
--- the first parts of twelve, one after another
+-- the first parts of twelve, joined
 together : (bytes : List ℕ) (count : ℕ) → 12 * count ≤ length bytes + 11
     → flat_map (twelve bytes) (below count) ≡ take (12 * count) (bytes ++ replicate 12 0)
 together bytes zero within = refl
@@ -58,7 +58,7 @@ all_together bytes =
     ∙ ap (λ (xs : List ℕ). bytes ++ xs)
     (take-replicate (12 * ((length bytes + 11) / 12) - length bytes) 12 0 few)
 
--- each string ends in these bytes
+-- joined strings have a zero byte for each string
 pub joined_ends : (strings : List (List ℕ)) (rest : List ℕ)
     → length strings ≤ ends_in (joined strings ++ rest)
 joined_ends [] rest = omega arith
@@ -116,7 +116,7 @@ pub resolved_same : (strings : List (List ℕ)) → All (λ s. s ≢ 9 ∷ []) s
 unfolding resolved
 resolved_same strings plain = resolves [] strings plain
 
--- strings that are all empty
+-- if all strings are empty, the list is a list of empty strings
 pub all_empty : (strings : List (List ℕ)) → are_empty strings ≡ true → strings ≡ replicate (length strings) []
 all_empty [] none = refl
 all_empty ([] ∷ strings) none = ap (λ (xs : List (List ℕ)). [] ∷ xs) (all_empty strings none)

@@ -1,4 +1,4 @@
--- Packs of which a few bits changed.
+-- Packs in which a few bits changed.
 use Rattle.std.proofs.Common.{◌≡◌, ◌≢◌, ℕ, ◌+◌, ◌-◌, ◌*◌, ◌/◌, ◌^◌, ◌<◌, ◌≤◌, Bool, true, List, [], ◌∷◌, ◌++◌, length, take, drop, get_or, Option, inl, inr, sym, ap, ap₂, ◌∙◌, subst, arith}
 use Rattle.std.proofs.lemmas.List.{append-nil, take-append-drop, length-take, take_at, drop_at, drop_more, drop_all}
 use Rattle.std.proofs.lemmas.List.Elements.{All-get_or}
@@ -31,7 +31,7 @@ last_two pack size =
     ∙ ap (λ (xs : List ℕ). get_or pack 16 0 ∷ xs) (drop_more pack 17 0 (omega arith)
     ∙ ap (λ (xs : List ℕ). get_or pack 17 0 ∷ xs) (drop_all 18 pack (omega arith)))
 
--- a pack whose check matches is bits that end in their check
+-- the bits of a pack with a right check end in their check
 checked : (pack : List ℕ) → IsPack pack → check_matches pack ≡ true → IsChecked (bits_of_bytes pack)
 unfolding check_matches
 checked pack is matches =

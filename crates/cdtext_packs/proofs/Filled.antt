@@ -1,4 +1,4 @@
--- How many packs texts fill.
+-- The number of packs of some texts.
 use Rattle.std.proofs.Common.{◌≡◌, ℕ, ◌+◌, ◌<◌, Bool, true, if◌then◌else◌, List, [], ◌∷◌, ◌++◌, length, flat_map, take, inl, inr, refl, sym, ap, ◌∙◌, arith}
 use Rattle.std.specs.List.{list_all}
 use Rattle.std.proofs.lemmas.Bool.{cases_Bool, and_from, and_parts}
@@ -40,7 +40,7 @@ none_from_no_text texts (k ∷ ks) empty =
     let rest = none_from_no_text texts ks parts.1 in
     omega arith
 
--- how many packs all kinds fill, when the packs of the first kinds are counted
+-- if the packs of the first seven kinds are counted, all kinds are counted
 pub all_counted : (texts : Texts) (count i : ℕ) → i ≡ 7
     → count ≡ length (flat_map (kind_contents texts) (take i kinds))
     → count ≡ length (flat_map (kind_contents texts) kinds)
@@ -54,7 +54,7 @@ none_counted texts count is none =
     ap (λ (b : Bool). length (if b then [] else flat_map (kind_contents texts) kinds ++ size_contents texts))
     (no_text_from_none texts kinds (sym is ∙ none))
 
--- otherwise they have three more than all kinds fill
+-- otherwise they have three packs more, the size packs
 pub some_counted : (texts : Texts) (count : ℕ) → count ≡ length (flat_map (kind_contents texts) kinds)
     → 0 < count → length (contents texts) ≡ count + 3
 some_counted texts count is some = elim (cases_Bool (has_no_text texts)) [

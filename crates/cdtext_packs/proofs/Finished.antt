@@ -1,4 +1,4 @@
--- What the texts of kept packs are, with and without the size packs.
+-- The texts of the kept packs, with and without the size packs.
 use Rattle.std.proofs.Common.{◌≡◌, ℕ, List, Option, Some, None, Result, Ok, Err, true, false, refl, sym, ap, subst, ◌∙◌, rules}
 use Rattle.std.proofs.lemmas.Bool.{cond-true, cond-false}
 use Rattle.std.specs.Option.{is_some}
@@ -75,7 +75,7 @@ all_sizes kept now a b third same some first second is whole =
     ∙ two_sizes kept a b third some first second (sym is)
     ∙ with_all kept a b third whole
 
--- a refusal is told as it is
+-- a refusal is reported unchanged
 pub told_as_is : (read : Result Texts TextFault) (fault : TextFault) → read ≡ Err fault
     → IfErr read (λ told. ◌≡◌ {A = Result Texts TextFault} (Err fault) (Err told))
 told_as_is read fault same =

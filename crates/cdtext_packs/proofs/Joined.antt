@@ -1,4 +1,4 @@
--- Strings in a row, a zero byte after each.
+-- Strings one after another, with a zero byte after each.
 use Rattle.std.proofs.Common.{◌≡◌, ℕ, zero, suc, ◌+◌, ◌<◌, ◌≤◌, Vec, Global, List, [], ◌∷◌, ◌++◌, length, get_or, take, map, refl, sym, ap, ◌∙◌, arith}
 use Rattle.std.proofs.lemmas.Grind.{flat_map-append}
 use Rattle.std.proofs.lemmas.List.{append_assoc, append-nil, length-append, length-map, get_or-map, get_or_append_left, get_or-append-add, take_more}
@@ -43,7 +43,7 @@ length-joined_more xs i inside =
     let two = length-append bytes string in
     omega arith
 
--- a string of a list by its vector
+-- `string` is string i of the list
 pub record IsStringAt (xs : List (List ℕ)) (i : ℕ) (string : List ℕ) : Type 0 where
   pub inside : i < length xs
   pub string_is : string ≡ get_or xs i []
@@ -61,7 +61,7 @@ string_at vectors xs i vector are below is =
           ∙ ap (λ (ys : List (List ℕ)). get_or ys i []) are;
     }
 
--- the byte after so many bytes of string i
+-- the byte at an offset in string i belongs to string i
 pub holders-at : (first : ℕ) (xs : List (List ℕ)) (i offset : ℕ) → i < length xs
     → offset ≤ length (get_or xs i [])
     → get_or (holders first xs) (length (joined (take i xs)) + offset) (0, 0) ≡ (first + i, offset)

@@ -1,4 +1,4 @@
--- The kept packs, as loops meet them.
+-- The kept packs, for the loops over them.
 use Rattle.std.proofs.Common.{◌≡◌, ℕ, zero, suc, ◌+◌, ◌-◌, ◌*◌, ◌<◌, ◌≤◌, Bool, true, false, cond, not, ◌&&◌, ◌==◌, nat_lt, if◌then◌else◌, List, [], ◌∷◌, ◌++◌, length, get_or, take, drop, find, filter, flat_map, Option, Some, None, is_none, refl, sym, ap, ◌∙◌, arith}
 use Rattle.std.specs.List.{range_with_len, list_all}
 use Rattle.std.proofs.lemmas.List.{get_or_default, take_more, drop_more, drop_all, append-nil, length-append, get_or_at}
@@ -12,7 +12,7 @@ use Rattle.cdtext_packs.specs.Writing.{type_of}
 use Rattle.cdtext_packs.specs.Reading.{in_order, keeps_nothing, is_size_pack, size_pack, kind_packs, kind_bytes, ends_in, is_zero, last_number, is_short}
 use Rattle.cdtext_packs.specs.declared.kinds.TextKind.{TextKind}
 
--- what stands at a place, as a loop over the slots meets it
+-- the slot at a place, as a loop reads it
 pub slot_is : (kept : List (Option (List ℕ))) (i : ℕ) (item slot : Option (List ℕ)) → i < length kept
     → item ≡ get_or kept i item → item ≡ slot
     → get_or kept i None ≡ slot
@@ -93,7 +93,7 @@ unfolding size_pack
 size_pack_ends kept d i past =
     ap (λ (k : List (Option (List ℕ))). find (is_size_pack d) (in_order k)) (drop_all i kept past)
 
--- The packs of a kind, one slot more
+-- The packs of a kind, with one more slot
 
 of_kind : TextKind → List ℕ → Bool
 of_kind kind pack = pack_type pack == type_of kind
@@ -146,7 +146,7 @@ bytes_more kept i pack kind inside is same =
     ∙ flat_map-append pack_text (kind_packs (take i kept) kind) (pack ∷ [])
     ∙ ap (λ (bytes : List ℕ). kind_bytes (take i kept) kind ++ bytes) (append-nil (pack_text pack))
 
--- What a loop has seen of them
+-- The packs that a loop has read
 
 ends-append : (xs ys : List ℕ) → ends_in (xs ++ ys) ≡ ends_in xs + ends_in ys
 ends-append xs ys = sum_by-append (λ (x : ℕ). cond (is_zero x) 1 0) xs ys

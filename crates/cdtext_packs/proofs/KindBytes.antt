@@ -14,7 +14,7 @@ use Rattle.cdtext_packs.proofs.Cutting.{all_first, all_rest}
 of_kind : TextKind → Content → Bool
 of_kind kind c = c.type == type_of kind
 
--- the packs of a kind among numbered ones are numbered ones of its contents, and hold their bytes
+-- the packs of a kind among numbered packs have the bytes of the contents of this kind
 pub bytes_among : (first : ℕ) (xs : List Content) (kind : TextKind) → All IsContent xs
     → flat_map pack_text (filter (λ pack. pack_type pack == type_of kind) (numbered first xs))
     ≡ flat_map (λ (c : Content). c.text) (filter (λ (c : Content). c.type == type_of kind) xs)
@@ -126,7 +126,7 @@ no_sizes texts Arranger = refl
 no_sizes texts Message = refl
 no_sizes texts Code = refl
 
--- the contents of a kind among all
+-- the contents of a kind among all contents
 pub kind_among : (texts : Texts) (kind : TextKind)
     → filter (λ (c : Content). c.type == type_of kind)
     (flat_map (kind_contents texts) kinds ++ size_contents texts)

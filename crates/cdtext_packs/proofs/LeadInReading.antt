@@ -126,7 +126,7 @@ left-offered : (s : LeadInTexts) (pack : List ℕ) → (offered s pack).left ≡
 unfolding offered
 left-offered s pack = left-answered (offer_of s.reader pack) s pack
 
--- past the lead-in nothing changes
+-- behind the lead-in nothing changes
 idle_step : (s : LeadInTexts) (block : List ℕ) → s.left ≡ 0 → text_next s block ≡ s
 unfolding text_next
 idle_step s block none =

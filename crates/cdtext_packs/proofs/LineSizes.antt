@@ -1,4 +1,4 @@
--- How long the lines of the texts of packs are.
+-- The length of the lines of the texts in packs.
 use Rattle.std.proofs.Common.{◌≡◌, ℕ, zero, suc, ◌+◌, ◌-◌, ◌*◌, ◌^◌, ◌<◌, ◌≤◌, Bool, true, false, not, ◌&&◌, ◌==◌, if◌then◌else◌, List, [], ◌∷◌, ◌++◌, length, get_or, filter, flat_map, fold, take, drop, replicate, Some, None, Result, Ok, refl, sym, subst, arith, inl, inr}
 use Rattle.std.specs.declared.option.Option.{Option}
 use Rattle.std.specs.Prelude.{◌||◌, nat_lt, nat_le, codes, decimal, slice_index, IfOk}
@@ -58,7 +58,7 @@ line_size texts kind track =
     line_size_by (is_empty (text_of kind track texts)) (line_head kind track) (text_of kind track texts)
     (head_size kind track)
 
--- ---- The lines of a kind, of which no string is longer than a size.
+-- ---- The lines of a kind whose strings have at most a given length.
 
 abbrev Fits : ℕ → List (List ℕ) → Type 0
 Fits most strings = (i : ℕ) → length (get_or strings i []) ≤ most
@@ -75,7 +75,7 @@ text_fits texts kind most track fits =
     text_fits_by (track == 0) (nat_lt track texts.first) most (get_or (strings_of kind texts) 0 [])
     (get_or (strings_of kind texts) (track - texts.first + 1) []) (fits 0) (fits (track - texts.first + 1))
 
--- so many lines of a size, of which a hundred may stand
+-- the length of lines of at most `most` bytes, of which there are at most a hundred
 lines_size : (f : ℕ → List ℕ) (xs : List ℕ) (most left : ℕ) → ((x : ℕ) → length (f x) ≤ most)
     → length xs + left ≡ 100
     → length (flat_map f xs) + left * most ≤ 100 * most
@@ -326,7 +326,7 @@ nothing_size =
     let h = kind_size no_texts Code 0 none_fits (omega arith) in
     omega (arith, sum, a, b, c, d, e, g, h)
 
--- ---- What packs are read as.
+-- ---- The texts that packs are read as.
 
 abbrev Short : Result Texts TextFault → Type 0
 Short read = IfOk read (λ texts. length (lines_in texts) ≤ 932100)
@@ -378,7 +378,7 @@ read_short kept few =
     either (keeps_nothing kept) _ _ nothing_size (λ some.
     sizes_short kept (size_pack kept 0) (size_pack kept 1) (size_pack kept 2) few)
 
--- ---- And the last line.
+-- ---- The last line.
 
 sum_of : (a b c d e f g : List ℕ)
     → length ((((((a ++ b) ++ c) ++ d) ++ e) ++ f) ++ g)

@@ -40,7 +40,7 @@ pub pack_count-full : (strings : List (List ℕ)) → are_empty strings ≡ fals
     → pack_count strings ≡ (length (joined strings) + 11) / 12
 pack_count-full strings e = ap (λ (b : Bool). if b then 0 else (length (joined strings) + 11) / 12) e
 
--- a pack of the strings begins inside their bytes
+-- a pack of some strings begins before the end of their bytes
 pub pack_begins : (strings : List (List ℕ)) (k : ℕ) → k < pack_count strings
     → 12 * k < length (joined strings)
 pack_begins strings k below = elim (cases_Bool (are_empty strings)) [
@@ -69,7 +69,7 @@ pushed_more old f first k number is =
     ∙ ap (λ (packs : List (List ℕ)). old ++ packs) (sym (numbered-append first (map f (below k)) (f k ∷ [])))
     ∙ ap (λ (xs : List Content). old ++ numbered first xs) (sym more)
 
--- a part of twelve bytes, or of fewer at the end
+-- a part of twelve bytes, or of fewer bytes at the end
 pub part_of_twelve : (bytes : List ℕ) (k start end : ℕ) → start ≡ 12 * k → start < length bytes
     → end ≡ min (length bytes) (start + 12)
     → twelve (take (end - start) (drop start bytes)) 0 ≡ twelve bytes k
@@ -91,7 +91,7 @@ part_of_twelve bytes k start end from inside to =
     ] in
     same ∙ ap (λ (n : ℕ). take 12 (drop n bytes ++ zeros)) from
 
--- the track of a string by its place
+-- the track of a string, from its place
 pub track_is : (first place track : ℕ)
     → ((place ≡ 0) × (track ≡ 0)) ⊎ ((place ≡ 0 → ⊥) × (track ≡ first + (place - 1)))
     → track ≡ (if place == 0 then 0 else first + place - 1)
@@ -103,7 +103,7 @@ track_is first place track which = elim which [
       same ∙ sym (cond-false (place == 0) 0 (first + place - 1) (ne_eqb place 0 later.0))
 ]
 
--- the bytes of a pack from its parts
+-- the bytes of a pack, from its parts
 pub content_is : (first type number k track position : ℕ) (strings : List (List ℕ)) (text : List ℕ)
     (holder : ℕ × ℕ)
     → slice_index_or (holders 0 strings) (12 * k) (0, 0) ≡ holder
@@ -114,7 +114,7 @@ unfolding text_content
 content_is first type number k track position strings text holder held track_is position_is text_is =
     rw (track_is, position_is, text_is, held)
 
--- the list of all kinds, one more
+-- the list of all kinds, with one more kind
 pub flat_map-kinds_more : (f : TextKind → List Content) (i : ℕ) (d : TextKind) → i < 7
     → flat_map f (take (i + 1) kinds) ≡ flat_map f (take i kinds) ++ f (get_or kinds i d)
 flat_map-kinds_more f i d below =
@@ -122,7 +122,7 @@ flat_map-kinds_more f i d below =
     ∙ flat_map-append f (take i kinds) (get_or kinds i d ∷ [])
     ∙ ap (λ (xs : List Content). flat_map f (take i kinds) ++ xs) (append-nil (f (get_or kinds i d)))
 
--- what packs hold that are not none
+-- the contents of packs, if there are packs
 pub contents_full : (texts : Texts) → 0 < length (contents texts)
     → contents texts ≡ flat_map (kind_contents texts) kinds ++ size_contents texts
 contents_full texts some = elim (cases_Bool (has_no_text texts)) [
@@ -139,7 +139,7 @@ length-contents texts some =
     ap length (contents_full texts some)
     ∙ length-append (flat_map (kind_contents texts) kinds) (size_contents texts)
 
--- the packs of the first kinds leave room for those of the next kind
+-- the packs of the first kinds leave room for the packs of the next kind
 pub kind_fits : (texts : Texts) (all : List (List ℕ)) (i : ℕ) (d : TextKind) → 0 < length (contents texts)
     → length (contents texts) ≤ 256 → i < 7
     → all ≡ numbered 0 (flat_map (kind_contents texts) (take i kinds))

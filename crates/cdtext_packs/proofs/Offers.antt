@@ -1,4 +1,4 @@
--- What is kept of offered packs.
+-- The kept packs, after packs were offered.
 use Rattle.std.proofs.Common.{◌≡◌, ℕ, ◌<◌, Bool, true, false, not, ◌&&◌, ◌==◌, if◌then◌else◌, List, [], ◌∷◌, ◌++◌, length, get_or, set, find, replicate, Option, Some, None, is_some, inl, inr, sym, ap, ◌∙◌, arith}
 use Rattle.std.proofs.lemmas.Bool.{cases_Bool, cases_eq, cond-true, cond-false, and_from, and_left, and_right, eq-eqb, ne_eqb, not_from_true, not_from_false, true≢false}
 use Rattle.std.proofs.lemmas.List.{ext_get_or, length-set, get_or-set_same, get_or-set_other, get_or-replicate, length-replicate}
@@ -57,7 +57,7 @@ find-push_none p (x ∷ packs) pack none fit = elim (cases_Bool (p x)) [
       cond-false (p x) (Some x) (find p (packs ++ pack ∷ [])) past ∙ find-push_none p packs pack rest fit
 ]
 
--- nothing changes where the pack fits no place
+-- a pack that changes no search by number does not change what is kept
 same_kept : (packs : List (List ℕ)) (pack : List ℕ) → ((n : ℕ) → n < 256 → find
     (λ p. is_good p && pack_number p == n) (packs ++ pack ∷ [])
     ≡ find (λ p. is_good p && pack_number p == n) packs)

@@ -1,4 +1,4 @@
--- Texts that are put piece by piece.
+-- Texts that are written piece by piece.
 use Rattle.std.proofs.Common.{◌≡◌, ℕ, ◌+◌, ◌<◌, ◌≤◌, List, [], ◌∷◌, ◌++◌, length, take, drop, get_or, flat_map, sym, ap, subst, ◌∙◌, append_assoc, arith, rules, Result, Ok, Err, OnErr, OnOk}
 use Rattle.std.proofs.lemmas.Grind.{flat_map-append}
 use Rattle.std.proofs.Math.Seq.{take-append-add}
@@ -14,7 +14,7 @@ pub on_err : {T E : Type 0} (r : Result T E) (P : Type 0) → P → OnErr r P
 on_err (Ok x) P p = tt
 on_err (Err e) P p = p
 
--- a prefix of the next piece is one of all
+-- a prefix of the next piece is a prefix of the whole text
 pub prefix_on : (a b c : Option (List ℕ)) (xs ys zs whole : List ℕ) → Appends a b xs → AppendsPrefix b c ys
     → whole ≡ xs ++ (ys ++ zs)
     → AppendsPrefix a c whole
@@ -41,7 +41,7 @@ pub put_both : (a b c : Option (List ℕ)) (xs ys whole : List ℕ) → Appends 
 put_both a b c xs ys whole first second e =
     subst (Appends a c) (sym e) (Appends-trans a b c xs ys first second)
 
--- the pieces of the first elements were put, and then that of the next one
+-- the pieces of the first elements were written, and then the piece of the next one
 pub piece_more : {X : Type 0} (a b c : Option (List ℕ)) (f : X → List ℕ) (xs : List X) (i : ℕ) (d : X)
     → i < length xs
     → Appends a b (flat_map f (take i xs)) → Appends b c (f (get_or xs i d))
@@ -52,7 +52,7 @@ piece_more a b c f xs i d inside put more =
     ∙ flat_map-append f (take i xs) (get_or xs i d ∷ [])
     ∙ ap (λ ys. flat_map f (take i xs) ++ ys) (append-nil (f (get_or xs i d))))
 
--- a prefix of the next one's piece, as the beginning of all and of what follows
+-- a prefix of the next piece was written: a prefix of the whole text, whatever follows
 pub piece_part : {X : Type 0} (a b c : Option (List ℕ)) (f : X → List ℕ) (xs : List X) (rest : List ℕ) (i : ℕ)
     (d : X) → i < length xs
     → Appends a b (flat_map f (take i xs)) → AppendsPrefix b c (f (get_or xs i d))
@@ -91,7 +91,7 @@ pub no_ok : {T E : Type 0} (r : Result T E) (P : Type 0) → IsErr r → OnOk r 
 no_ok (Ok x) P failed = absurd (search rules)
 no_ok (Err e) P failed = tt
 
--- a call that fails by a write after writes that did not fail
+-- a call that fails because of a write, after writes that did not fail
 pub write_failed : {T E : Type 0} (r : Result T E) (before then now : ℕ) → IsErr r → then ≡ before
     → then ≤ now → Rose then now
     → HasCause before now r

@@ -13,7 +13,7 @@ abbrev answer : Bool → Bool → Bool → Offer
 answer matches first kept =
     if not matches then BadCrc else (if not first then OtherBlock else (if kept then Again else Kept))
 
--- a pack that is kept is good, and there already
+-- offering a kept pack again has the answer `Again`
 pub offered_again : (kept : List (Option (List ℕ))) (pack : List ℕ) → AreGood kept
     → with_number kept (pack_number pack) ≡ Some pack → offer_of kept pack ≡ Again
 offered_again kept pack good is =
@@ -24,7 +24,7 @@ offered_again kept pack good is =
     ∙ ap (λ b. answer true b (is_some (with_number kept (pack_number pack)))) parts.1
     ∙ ap (λ b. answer true true b) there
 
--- where none is kept
+-- a list without kept packs has none at any number
 none_at : (count n : ℕ) → get_or (replicate {A = Option (List ℕ)} count None) n None ≡ None
 none_at zero n = refl
 none_at (suc count) zero = refl

@@ -7,7 +7,7 @@ use Rattle.cdtext_packs.specs.Packs.{sealed, check_matches, is_first_block, is_g
 use Rattle.cdtext_packs.specs.Texts.{Texts}
 use Rattle.cdtext_packs.specs.Writing.{Content, content_bytes, numbered, twelve, text_content, size_content, size_bytes, joined}
 
--- a content that a pack can hold
+-- the content fits into a pack
 pub record IsContent (c : Content) : Type 0 where
   pub text : length c.text ≡ 12
   pub position : c.position < 16
@@ -68,7 +68,7 @@ seal_text n c is =
     take_at c.text ((check_of (content_bytes n c) / 256) ∷ (check_of (content_bytes n c) % 256) ∷ []) 12
     is.text
 
--- a pack by its number
+-- the pack with a given number
 pub numbered_at : (first : ℕ) (xs : List Content) (i : ℕ) (d : Content) → i < length xs
     → get_or (numbered first xs) i [] ≡ sealed (content_bytes (first + i) (get_or xs i d))
 numbered_at first [] i d inside = absurd (omega arith)

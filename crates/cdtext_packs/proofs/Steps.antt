@@ -1,4 +1,4 @@
--- The steps of reading, where each answer is known.
+-- The steps of reading, if each answer is known.
 use Rattle.std.proofs.Common.{◌≡◌, ℕ, zero, suc, ◌+◌, ◌-◌, ◌<◌, ◌≤◌, Bool, true, false, ◌||◌, nat_lt, if◌then◌else◌, List, [], ◌∷◌, length, get_or, slice_index, take, drop, find, Option, Some, None, Result, Ok, Err, IfErr, inl, inr, ◌⊎◌, is_none, unwrap_or, refl, sym, ap, ◌∙◌, arith}
 use Rattle.std.specs.Option.{option_map}
 use Rattle.std.proofs.lemmas.List.{get_or-take, get_or-drop}
@@ -25,7 +25,7 @@ find_none_at p (x ∷ xs) (suc k) d none inside = elim (cases_Bool (p x)) [
   | inr here ↦ find_none_at p xs k d (sym (cond-false (p x) (Some x) (find p xs) here) ∙ none) (omega arith)
 ]
 
--- where no kind is short, this one is not
+-- if no kind is short, this kind is not
 pub none_short : (kept : List (Option (List ℕ))) (count : ℕ) (kind : TextKind) → first_short kept count ≡ None
     → is_short kept count kind ≡ false
 none_short kept count kind none = elim kind as (λ kind. is_short kept count kind ≡ false) [
@@ -44,7 +44,7 @@ none_short kept count kind none = elim kind as (λ kind. is_short kept count kin
 text_at : (pack : List ℕ) (i : ℕ) → i < 12 → slice_index (pack_text pack) i ≡ slice_index pack (4 + i)
 text_at pack i below = get_or-take 12 (drop 4 pack) i 0 below ∙ get_or-drop 4 pack i 0
 
--- a byte of text of a pack, as one of the pack
+-- a byte of the text of a pack is a byte of the pack
 pub size_at : (pack text : List ℕ) (i : ℕ) → text ≡ pack_text pack → i < 12
     → get_or text i 0 ≡ get_or pack (4 + i) 0
 size_at pack text i is below = ap (λ (bytes : List ℕ). get_or bytes i 0) is ∙ text_at pack i below
@@ -89,7 +89,7 @@ sizes_pass kept size0 size1 least order most =
     ∙ cond-false (nat_lt (get_or size0 6 0) (get_or size0 5 0) || nat_lt 99 (get_or size0 6 0)) _ _
     (within (get_or size0 5 0) 99 (get_or size0 6 0) order most)
 
--- the same with what was read of the size packs
+-- the same, with the values that were read from the size packs
 pub all_pass : (kept : List (Option (List ℕ))) (size0 size1 : List ℕ) (first last n : ℕ)
     → first ≡ get_or size0 5 0 → last ≡ get_or size0 6 0 → n ≡ get_or size1 12 0
     → 1 ≤ first → first ≤ last → last ≤ 99
@@ -155,7 +155,7 @@ sizes_read kept size0 size1 third some first second last is =
     there None e = absurd (true≢false e)
     there (Some size2) e = refl
 
--- Where the packs give texts none are refused, and where they do not the answer is their reason
+-- If the packs have texts, they are not refused; if not, the answer is the reason
 
 pub given_texts : (read answer : Result Texts TextFault) (texts : Texts) → read ≡ Ok texts
     → IfErr read (λ fault. answer ≡ Err fault)

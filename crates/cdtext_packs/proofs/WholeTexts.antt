@@ -97,7 +97,7 @@ none_with first title performer songwriter code t p s c =
     (and_from _ _ c refl)))))) in
     ap (λ (b : Bool). if b then no_texts else texts_with first title performer songwriter code) all
 
--- the strings of a kind are at most those of the album and of 99 tracks
+-- a kind has at most the strings of the album and of 99 tracks
 pub record AreFewStrings (xs : List (List ℕ)) : Type 0 where
   pub count : length xs ≤ 100
   pub each : All IsString xs

@@ -1,4 +1,4 @@
--- The lines of a cue sheet one after another: what they say is in order, and made of the bytes of the text.
+-- The lines of a cue sheet, one after another: what they say is valid, and consists of bytes of the text.
 use Rattle.std.proofs.Common.{◌≡◌, ℕ, zero, suc, ◌+◌, ◌≤◌, Bool, true, false, not, if◌then◌else◌, List, [], ◌∷◌, ◌++◌, length, Option, Some, None, All, refl, ap, sym, subst, ◌∙◌, arith}
 use Rattle.std.specs.Prelude.{is_some, unwrap_or, Result, Ok, Err}
 use Rattle.std.proofs.lemmas.Bool.{cond_both}
@@ -17,7 +17,7 @@ use Rattle.cue_sheet.proofs.Good.{IsGood, good_start, good_more, good_sheet}
 use Rattle.cue_sheet.proofs.LineBytes.{Fits, EachFits, fits_trimmed, fits_argument, lines_fit}
 use Rattle.cue_sheet.proofs.SaidRanges.{SaysBytes, command_is}
 
--- a sheet that is not refused at its end is in order
+-- a sheet that is not refused at its end is valid
 sheet_ends : (s : CueState) (o : Option ℕ) (file one : Bool) → s.number ≡ o → has_index_one s.section ≡ one
     → IsGood s
     → (if not file

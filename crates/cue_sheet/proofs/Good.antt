@@ -1,4 +1,4 @@
--- What holds of all that lines say.
+-- Facts about all values that lines set.
 use Rattle.std.proofs.Common.{rules, ◌≡◌, ℕ, suc, ◌+◌, ◌-◌, ◌≤◌, ◌<◌, ◌⊎◌, true, false, Bool, List, [], ◌∷◌, ◌++◌, length, get_or, Option, Some, None, refl, ap, sym, ◌∙◌, arith, inl, inr, subst}
 use Rattle.std.specs.Prelude.{IfSome, IfNone, IsTrue, is_some, max, not, ◌&&◌, ◌||◌, ◌==◌, nat_lt, nat_le, unwrap_or, if◌then◌else◌}
 use Rattle.std.specs.Option.{ForSome}
@@ -29,7 +29,7 @@ InRange s =
     × IfSome s.pregap (λ n. n < 450000)
     × IfSome s.postgap (λ n. n < 450000)
 
--- index lines so far, with the greatest time of all lines
+-- the index lines so far are valid, and `latest` is the greatest time of all lines
 pub record AreSoFar (lines : List (ℕ × ℕ)) (latest : ℕ) : Type 0 where
   pub first : number_at lines 0 ≤ 1
   pub next : (j : ℕ) → j < length lines → number_at lines j ≡ number_at lines 0 + j
@@ -122,7 +122,7 @@ AreSoFar-pushed lines latest number time good follows late small short =
           [ inl p ↦ omega (arith, p.2, good.past j p.0) | inr p ↦ omega (arith, p.2) ];
     }
 
--- tracks in order
+-- the tracks are valid and in order
 pub record AreTracks (tracks : List CueTrack) : Type 0 where
   pub each : (k : ℕ) → k < length tracks → IsTrack (get_or tracks k no_track)
   pub next : (k : ℕ) → k < length tracks
@@ -327,7 +327,7 @@ full_track s n good range one =
       songwriter = or_text s.section.songwriter good.0.3;
     }
 
--- and behind the tracks before it
+-- and it follows the tracks before it
 full_tracks : (s : CueState) (n : ℕ) → IsGood s → s.number ≡ Some n → has_index_one s.section ≡ true
     → AreTracks (s.tracks ++ track_from n s.section ∷ [])
 full_tracks s n good is one =
@@ -342,7 +342,7 @@ full_tracks s n good is one =
     AreTracks-pushed s.tracks (track_from n s.section) order.earlier (full_track s n good range one) follows
     (λ k i lt inner. order.before k i lt inner (omega (arith, found.1)))
 
--- the sheet of a state that may end
+-- the sheet of a state that may be the last one
 pub good_sheet : (s : CueState) (n : ℕ) → IsGood s → s.number ≡ Some n → has_index_one s.section ≡ true
     → IsSheet (sheet_from s.album (s.tracks ++ track_from n s.section ∷ []))
 good_sheet s n good is one =

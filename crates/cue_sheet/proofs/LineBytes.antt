@@ -9,7 +9,7 @@ use Rattle.std.proofs.lemmas.List.Elements.{All-append, All-take, All-drop}
 use Rattle.text_lines.specs.Text.{is_blank, without_blanks, trimmed, first_word, argument_of, without_mark, lines_in, lines_of}
 use Rattle.text_lines.proofs.WordSteps.{without_blanks_by_place}
 
--- so many bytes at most, of each of which P holds
+-- at most `most` bytes, for each of which P holds
 pub record Fits (P : ℕ → Type 0) (most : ℕ) (s : List ℕ) : Type 0 where
   pub bytes : All P s
   pub size : length s ≤ most

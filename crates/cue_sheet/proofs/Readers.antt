@@ -1,4 +1,4 @@
--- A track in memory: its place in the sheet, and what holds of it and of its texts.
+-- A track in memory: its place in the sheet, and the facts about it and its texts.
 use Rattle.std.proofs.Common.{◌≡◌, ℕ, ◌-◌, ◌≤◌, ◌<◌, List, length, get_or, refl, ap, sym, subst, ◌∙◌, arith}
 use Rattle.std.proofs.lemmas.List.{get_or-map, length-map}
 use Rattle.std.specs.Prelude.{◌==◌}
@@ -35,7 +35,7 @@ good_place album tracks sheet k t is lt at good =
     let whole : IsSheet sheet = subst IsSheet is good in
     subst IsTrack (sym (track_of_place album tracks sheet k t is lt at)) (whole.tracks k lt)
 
--- a track in memory is the track of its place, and its values are in range
+-- a track in memory is the track at its place, and its values are in range
 pub found_track : (album : Section) (tracks : List Track) (sheet : CueSheet) (k : ℕ) (t : Track)
     → sheet_value album tracks ≡ sheet → k < length sheet.tracks → t ≡ get_or tracks k t
     → IsSheet (sheet_value album tracks)

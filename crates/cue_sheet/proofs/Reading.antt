@@ -1,4 +1,4 @@
--- Reading goes line by line.
+-- A text is read line by line.
 use Rattle.std.proofs.Common.{subst, inl, inr, ◌++◌, ◌≡◌, ℕ, ◌+◌, ◌≤◌, ◌<◌, List, [], ◌∷◌, length, Option, Some, None, refl, ap, sym, ◌∙◌, arith}
 use Rattle.std.specs.Prelude.{Ok, Err, is_some, not, if◌then◌else◌, Bool, true, false}
 use Rattle.text_lines.specs.Text.{lines_in, without_mark}
@@ -13,7 +13,7 @@ use Rattle.cue_sheet.specs.declared.fault.CueWhy.TheVariants.{NoFile, NoTrack, N
 use Rattle.cue_sheet.proofs.Good.{IsGood, good_start, good_more, good_sheet}
 use Rattle.cue_sheet.proofs.Stepping.{ended_is}
 
--- the lines read so far said what the draft says, and the rest goes on from there
+-- the lines that were read give the draft, and the rest is read from there
 pub record Reading (text rest : List ℕ) (number : ℕ) (draft : CueState) : Type 0 where
   pub same : read_cue text ≡ read_on sheet_step ended number draft (lines_in rest)
   pub good : IsGood draft
@@ -56,7 +56,7 @@ reading_goes_on text rest line next number old new reading lines shorter (Says s
     read_line text rest line next number old new reading lines shorter taken
     (subst IsGood (sym is) (good_more old said reading.good range free))
 
--- a line that is not taken is the first that is refused
+-- a line that is not accepted is the first one that is refused
 pub reading_stops : (text rest line next : List ℕ) (number : ℕ) (old : CueState) (why : CueWhy)
     → Reading text rest number old → lines_in rest ≡ line ∷ lines_in next
     → sheet_step old line ≡ Err why → read_cue text ≡ Err (number, why)
@@ -88,7 +88,7 @@ end_needs_index false one is h = cc
 end_needs_index true false is h = cc
 end_needs_index true true is h = cc
 
--- where the end is not refused there is a last track, and the sheet is in order
+-- if the end is not refused, there is a last track and the sheet is valid
 ends : (s : CueState) (o : Option ℕ) → s.number ≡ o → IsGood s
     → (if not s.has_file
     then Some NoFile

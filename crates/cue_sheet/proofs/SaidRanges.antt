@@ -1,4 +1,4 @@
--- What the lines of a cue sheet say is in its ranges, and made of the bytes of the text.
+-- The values in the lines of a cue sheet are in their ranges, and consist of bytes of the text.
 use Rattle.std.proofs.Common.{◌≡◌, ◌≢◌, ℕ, zero, suc, ◌+◌, ◌*◌, ◌^◌, ◌<◌, ◌≤◌, Bool, true, false, not, ◌&&◌, ◌==◌, if◌then◌else◌, List, [], ◌∷◌, length, take, drop, Option, Some, None, All, IsTrue, refl, sym, ap, subst, ◌∙◌, arith}
 use Rattle.std.specs.Prelude.{nat_le, option_map, find, is_some, Result, Ok, Err}
 use Rattle.std.specs.List.{list_all, position}
@@ -26,7 +26,7 @@ guarded : {X : Type 0} → (b : Bool) (o : Option X) (y : X) → (if b then o el
 guarded true o y e = e
 guarded false o y e = cc
 
--- what holds of each value of a list of pairs holds of the one that is found, if it holds of none
+-- Q holds for each value of a list of pairs
 abbrev EachValue : {C : Type 0} → (Option C → Type 0) → List (List ℕ × C) → Type 0
 EachValue Q [] = Unit {0}
 EachValue Q (e ∷ es) = Q (Some e.1) × EachValue Q es
@@ -160,7 +160,7 @@ plain_all (b ∷ s) all =
     more b s le rest (suc k) d less = rest k d (omega arith)
 
 module _ (P : ℕ → Type 0) where
-  -- of the bytes of the texts that a line says P holds
+  -- P holds for all bytes of the texts in a line
   abbrev pub SaysBytes : CueLine → Type 0
   SaysBytes (SaysTitle s) = All P s
   SaysBytes (SaysPerformer s) = All P s
@@ -211,7 +211,7 @@ module _ (P : ℕ → Type 0) where
   mapped f None line each e = cc
   mapped f (Some x) line each e = let same : f x ≡ line = cc in subst IsSaid same (each x refl)
 
-  -- a line that says something is taken
+  -- a line with a meaning is accepted
   pub record Takes (s next : CueState) : Type 0 where
     pub line : CueLine
     pub said : IsSaid line

@@ -1,4 +1,4 @@
--- What a text is read as, by the places of its texts.
+-- The sheet that a text is read as, with the places of its texts.
 use Rattle.std.proofs.Common.{◌≡◌, ◌≢◌, ℕ, ◌-◌, ◌<◌, ◌≤◌, ◌==◌, List, length, All, arith}
 use Rattle.std.specs.Prelude.{Ok}
 use Rattle.std.proofs.lemmas.Bool.{cond_both, eqb-false}

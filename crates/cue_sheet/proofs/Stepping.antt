@@ -1,4 +1,4 @@
--- A step is the look for a reason and then the change.
+-- A step searches a reason to refuse the line, and otherwise changes the state.
 use Rattle.std.proofs.Common.{◌≡◌, ℕ, ◌≤◌, ◌<◌, List, length, Bool, true, false, Option, Some, None, refl, ap, sym, ◌∙◌, arith}
 use Rattle.std.specs.Prelude.{Result, Ok, Err, is_some, not, max, nat_lt, if◌then◌else◌}
 use Rattle.cue_sheet.specs.CueSheet.{CueSheet}
@@ -39,7 +39,7 @@ index_is false early next other same = refl
 latest_is : (time latest : ℕ) → nat_lt time latest ≡ false → time ≡ max time latest
 latest_is time latest free = let late : latest ≤ time = grind (arith, free) in omega arith
 
--- what a line makes of what was said, unless there is a reason against it
+-- the state after a line, unless there is a reason against it
 pub taken_is : (s : CueState) (line : CueLine)
     → taken s line ≡ unless (after s line) (later_sheet_reason s line)
 unfolding taken later_sheet_reason
@@ -81,7 +81,7 @@ passed_is false true answer first here = refl
 passed_is false false answer first here = cc
 passed_is true placed answer first here = cc
 
--- a command that stands well and is spelled well: its line is taken, unless there is a reason against it
+-- a command in the right place with a valid argument: its line is accepted, unless there is a reason against it
 pub obeyed_is : (s : CueState) (word : Option SheetCommand) (command : SheetCommand) (argument : List ℕ)
     (line : CueLine) (reason : Option CueWhy)
     → word ≡ Some command → is_second_file s command ≡ false → is_placed s command ≡ true
@@ -100,7 +100,7 @@ some_is s line some =
     let is : is_some_bytes line ≡ true = grind arith in
     ap (λ b. if b then obeyed s (command_named (first_word line)) (argument_of line) else Ok s) is
 
--- a line that is not empty is its command and its argument
+-- a line that is not empty consists of its command and its argument
 pub step_is : (s : CueState) (line rest : List ℕ) → rest ≡ trimmed line → 0 < length rest
     → sheet_step s line ≡ obeyed s (command_named (first_word rest)) (argument_of rest)
 step_is s line rest is some =
@@ -108,7 +108,7 @@ step_is s line rest is some =
     (sym is)
     ∙ some_is s rest some
 
--- a line that begins no track and is no index line is refused only where it stands there already
+-- a line that is neither a track nor an index line is refused only if its section already has one
 pub once_reason : (said : CueState) (line : SheetLine) (again : Bool)
     → ((number : ℕ) (audio : Bool) → line ≡ Track number audio → ⊥)
     → ((number time : ℕ) → line ≡ Index number time → ⊥)

@@ -12,8 +12,8 @@ use Rattle.pack_schedule.specs.declared.planner.PlanRow.{PlanRow}
 use Rattle.disc_plan.specs.PictureRows.{is_late, no_disc_row, told_row, AreToldRows, IsToldRow}
 use Rattle.disc_plan.specs.declared.picture_rows.PlannedRow.{PlannedRow}
 
--- The rows of the first k pictures are written, of which so many are late; the lines still to come are these.
--- The rows behind the last picture stay.
+-- The rows of the first k pictures are written, and `late` of them are late; `lines` belong to the other pictures.
+-- The rows behind the last picture are unchanged.
 pub record IsWriting (script : List Drawing) (all : List ℕ) (before : List PlannedRow) (k : ℕ)
     (lines : List ℕ) (rows : List PlannedRow) (late : ℕ) : Type 0 where
   pub lines_are : lines ≡ drop k all
@@ -35,7 +35,7 @@ none_written script all rows lines is = record {
   late_most = omega arith;
 }
 
--- the first of the lines still to come is that of picture k
+-- the first of the other lines is the line of picture k
 line_at : (all lines : List ℕ) (k line : ℕ) → k < length all → line ∷ lines ≡ drop k all
     → (line ≡ get_or all k 0) × (lines ≡ drop (suc k) all)
 line_at all lines k line lt is =

@@ -23,7 +23,7 @@ few_lines track good =
       good.next (length track.indices - 1) last,
     )
 
--- one track more
+-- one more track
 pub rows_more : (sheet : CueSheet) (k : ℕ) → k < length sheet.tracks
     → rows_before sheet (k + 1) ≡ rows_before sheet k ++ track_rows (track_of sheet k)
 rows_more sheet k lt =
@@ -45,7 +45,7 @@ assoc : (xs ys zs : List SheetRow) → (xs ++ ys) ++ zs ≡ xs ++ (ys ++ zs)
 assoc [] ys zs = refl
 assoc (x ∷ xs) ys zs = ap (λ l. x ∷ l) (assoc xs ys zs)
 
--- rows that are put behind those at the front
+-- rows that are written behind the rows at the front
 pub put_more : (text piece room packs new : List SheetRow) (at : ℕ) → at ≡ length text
     → packs ≡ text ++ drop (length text) room
     → new ≡ take at packs ++ (piece ++ drop (at + length piece) packs)

@@ -1,4 +1,4 @@
--- The tables of the bytes of two decimal digits.
+-- The tables for bytes of two decimal digits.
 use Rattle.std.proofs.Common.{◌≡◌, ℕ, ◌+◌, ◌*◌, ◌/◌, ◌%◌, ◌<◌, ◌≤◌, ◌⊎◌, Bool, true, ◌==◌, get_or, if◌then◌else◌, ap, ◌∙◌, refl, arith, inl, inr}
 use Rattle.std.specs.Prelude.{nat_le, ◌&&◌, ◌≢◌}
 use Rattle.std.proofs.lemmas.Bool.{eqb-true}
@@ -14,7 +14,7 @@ test_bytes : all_below has_byte 100 ≡ true
 unfolding all_below has_byte
 test_bytes = refl
 
--- what the table has for a number
+-- the table entry of a number is its byte
 pub byte_at : (n place found : ℕ) → n ≤ 99 → place ≡ n → found ≡ get_or BYTES place 0 → found ≡ bcd n
 unfolding has_byte
 byte_at n place found small same is =
@@ -30,7 +30,7 @@ test_numbers : all_below has_number 256 ≡ true
 unfolding all_below has_number
 test_numbers = refl
 
--- what the table has for a byte: its number, or 255
+-- the table entry of a byte is its number, or 255
 pub number_at : (byte place found : ℕ) → byte < 256 → place ≡ byte → found ≡ get_or NUMBERS place 0
     → ((byte / 16 ≤ 9) × (byte % 16 ≤ 9) × (found ≡ 10 * (byte / 16) + byte % 16))
     ⊎ (((9 < byte / 16) ⊎ (9 < byte % 16)) × (found ≡ 255))
@@ -48,7 +48,7 @@ number_at byte place found small same is =
       | inr (tens, many_tens) ↦ inr (inl many_tens, rw tens at value)
     ]
 
--- a byte that has no number
+-- a byte with the entry 255 has no number
 pub none_at : (byte place found : ℕ) → byte < 256 → place ≡ byte → found ≡ get_or NUMBERS place 0
     → found ≡ 255 → (9 < byte / 16) ⊎ (9 < byte % 16)
 none_at byte place found small same is none = elim (number_at byte place found small same is) [
@@ -56,7 +56,7 @@ none_at byte place found small same is none = elim (number_at byte place found s
   | inr (many, value) ↦ many
 ]
 
--- a byte that has one
+-- any other entry is a number
 pub some_at : (byte place found : ℕ) → byte < 256 → place ≡ byte → found ≡ get_or NUMBERS place 0
     → found ≢ 255 → (found ≤ 99) × (byte ≡ bcd found)
 some_at byte place found small same is some = elim (number_at byte place found small same is) [

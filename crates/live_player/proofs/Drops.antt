@@ -1,8 +1,8 @@
--- Lists of which elements are written one after the other.
+-- Lists whose elements are written one after another.
 use Rattle.std.proofs.Common.{◌≡◌, ◌≢◌, ◌+◌, ◌-◌, ◌<◌, ◌≤◌, ℕ, List, below_more, drop, get_or, get_or-set_other, get_or-set_same, length, set, ap, subst, sym, ◌∙◌, arith}
 use Rattle.std.proofs.lemmas.List.{drop-drop}
 
--- lists that are the same behind a place are the same behind each later one
+-- lists that agree from one place agree from each later place
 pub rest_on : {X : Type 0} (n m : ℕ) (xs ys : List X) → n ≤ m → drop n xs ≡ drop n ys → drop m xs ≡ drop m ys
 rest_on {X} n m xs ys le same =
     let parts : n + (m - n) ≡ m = omega (arith, le) in
@@ -12,7 +12,7 @@ rest_on {X} n m xs ys le same =
     ∙ drop-drop (m - n) n ys
     ∙ ap (λ k. drop k ys) parts
 
--- what holds of the first elements and of one more holds of all of them, after it is written
+-- a fact about the first elements still holds, and also for one more element, after this element is written
 pub more_written : {X : Type 0} (P : ℕ → X → Type 0) (xs : List X) (n : ℕ) (x d : X) → n < length xs
     → ((k : ℕ) → k < n → P k (get_or xs k d)) → P n x → (k : ℕ) → k < n + 1 → P k (get_or (set xs n x) k d)
 more_written P xs n x d fits before one =

@@ -1,4 +1,4 @@
--- A block of four idle packs changes nothing that is told.
+-- A block of four idle packs changes nothing in the report of changes.
 use Rattle.std.proofs.Common.{◌≡◌, ℕ, ◌≤◌, ◌∷◌, [], List, max, min, replicate, sym, ap, ◌∙◌, arith}
 use Rattle.std.specs.declared.option.Option.{Option}
 use Rattle.cdg_io.specs.Run.{run_state}
@@ -51,7 +51,7 @@ idle_sees watch within is =
 less : (a b n : ℕ) → a ≤ n → min a b ≤ n
 less a b n le = omega (arith, le)
 
--- what is told goes on to begin on the screen
+-- the reported rectangle still begins on the screen
 pub within_after : (watch : Watch) (instrs : List Instr) → IsWithinScreen watch.change
     → IsWithinScreen (run_state sees watch instrs).change
 within_after watch [] within = within

@@ -1,4 +1,4 @@
--- What is not told stays as it is.
+-- Pixels outside the reported change are unchanged.
 use Rattle.std.proofs.Common.{◌≡◌, ℕ, ◌+◌, ◌-◌, ◌*◌, ◌/◌, ◌<◌, ◌≤◌, ◌&&◌, Bool, true, false, List, [], ◌∷◌, get_or, max, min, if◌then◌else◌, refl, sym, ap, ap₂, subst, ◌∙◌, inl, inr, arith}
 use Rattle.std.specs.Prelude.{nat_le, nat_lt}
 use Rattle.std.proofs.lemmas.Bool.{cases_lt}
@@ -35,7 +35,7 @@ offsets_of (Transparency levels) offsets = refl
 offsets_of (ColoursLow colours) offsets = refl
 offsets_of (ColoursHigh colours) offsets = refl
 
--- ---- pixels past the memory
+-- ---- pixels outside the memory
 
 past_rows : (pixel : ℕ → ℕ → ℕ) (x y : ℕ) → 216 ≤ y → pixel_at (rows_of pixel) x y ≡ 0
 unfolding pixel_at
@@ -52,7 +52,7 @@ as_rows : (now : Standing) (x y : ℕ) → IsWholeStanding now
     → pixel_at now.memory x y ≡ pixel_at (rows_of (memory_from (pixel_at now.memory) [])) x y
 as_rows now x y whole = ap (λ (s : Standing). pixel_at s.memory x y) (sym whole)
 
--- where the pixels of the memory are the same, so are those past it
+-- if the pixels of the memory are equal, so are those outside it
 pub same_pixels : (old new : Standing) (x y : ℕ) → IsWholeStanding old → IsWholeStanding new
     → (x < 300 → y < 216 → pixel_at new.memory x y ≡ pixel_at old.memory x y)
     → pixel_at new.memory x y ≡ pixel_at old.memory x y
@@ -93,7 +93,7 @@ in_window x y is = record {
   bottom = grind (arith, nat_tests);
 }
 
--- the screen shows the same at a place where the memory and the border are the same
+-- the screen shows the same pixel if the memory and the border are the same there
 screen_same : (old new : Standing) (x y : ℕ)
     → (IsShown x y
     → pixel_at new.memory (x + new.h) (y + new.v) ≡ pixel_at old.memory (x + old.h) (y + old.v))
@@ -159,7 +159,7 @@ beside_same change old new same pixels = record {
   levels = λ _. same.levels;
 }
 
--- the memory and the place are the same
+-- the memory and the offsets are the same
 moved_same : (old new : Standing) (x y : ℕ) → new.memory ≡ old.memory → IsSamePlace old new
     → pixel_at new.memory (x + new.h) (y + new.v) ≡ pixel_at old.memory (x + old.h) (y + old.v)
 moved_same old new x y memory place =
@@ -206,7 +206,7 @@ step_keeps Levels old new whole whole_new same = record {
 
 -- ---- all instructions
 
--- what was told before is told still, and the rest stays
+-- earlier changes are still reported, and all other pixels are unchanged
 pub record Tells (told : ScreenChange) (before : ScreenChange) (old new : Standing) : Type 0 where
   pub keeps : KeepsUntold told old new
   pub within : (x y : ℕ) → IsInChange before x y → IsInChange told x y

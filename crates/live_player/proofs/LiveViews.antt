@@ -1,4 +1,4 @@
--- What stands after what a player was given.
+-- The standing after the inputs of a player.
 use Rattle.std.proofs.Common.{◌≡◌, ℕ, ◌+◌, ◌-◌, ◌*◌, ◌^◌, ◌<◌, replicate, List, [], ◌∷◌, ◌++◌, length, map, take, drop, refl, ap, ap₂, ◌∙◌, subst, sym, arith, None, Some, length-append, length-drop}
 use Rattle.std.specs.declared.option.Option.{Option}
 use Rattle.std.specs.List.{flat_map}
@@ -56,13 +56,13 @@ instructions_append words others =
 pub bad_append : (fs gs : List (Option (List ℕ))) → bad_count (fs ++ gs) ≡ bad_count fs + bad_count gs
 bad_append fs gs = sum_by-append _ fs gs
 
--- what is found for a word, drawn
+-- the finding for a word is drawn
 pub entry_meant : (now : Standing) (found : Option (List ℕ)) → IsWholeStanding now
     → entry_drawn now found ≡ standing_after now (meant_by (found ∷ []))
 entry_meant now None whole = sym whole
 entry_meant now (Some codeword) whole = refl
 
--- one word more
+-- one more word
 pub word_drawn : (start old new : Standing) (words : List (List ℕ)) (word : List ℕ)
     → old ≡ standing_after start (instructions_of words) → new ≡ entry_drawn old (finding word)
     → new ≡ standing_after start (instructions_of (words ++ word ∷ []))
@@ -104,7 +104,7 @@ pub idle_bad : (bad : ℕ) → bad < 2 ^ 32 → IsCodeword (replicate 24 0)
     → bad ≡ bad_counted bad (Some (record { items = replicate 4 (replicate 24 0) }))
 idle_bad bad fits is = omega (arith, fits, idle_words_counted is)
 
--- a count of some words, and then of those that come with a block
+-- the bad words so far, and those that end with a block
 items_counted : (o : Option (ArrayVec (List ℕ))) (old before : ℕ) → old ≡ min before (2 ^ 32 - 1)
     → bad_counted old o ≡ min (before + bad_count (map finding (all_items (give o [])))) (2 ^ 32 - 1)
 items_counted None old before is = let none : bad_count (map finding (all_items [])) ≡ 0 = refl in
@@ -123,9 +123,9 @@ items_drawn : (o : Option (ArrayVec (List ℕ))) → drawn_for o ≡ instruction
 items_drawn None = refl
 items_drawn (Some words) = ap instructions_of (sym (nothing_after words.items))
 
--- ---- what a player was given
+-- ---- the inputs of a player
 
--- what is drawn for a block are the instructions of the words that come with it
+-- a block draws the instructions of the words that end with it
 pub drawn_with : (form : Form) (lead_in : ℕ) (given : List Given) (block : List ℕ) (player : LivePlayer)
     → length block ≡ 96 → HasPlayed form lead_in given player
     → drawn_for (words_give player.words block)
@@ -190,7 +190,7 @@ drawn_more form lead_in given pack old new same draws begun counted bad played =
   bad = bad ∙ played.bad;
 }
 
--- what a block draws comes behind what was drawn before
+-- the instructions of a block follow the earlier ones
 pub drawn_next : (form : Form) (lead_in : ℕ) (given : List Given) (block : List ℕ) (player : LivePlayer)
     → length block ≡ 96 → HasPlayed form lead_in given player
     → instructions_in form lead_in (Fed block ∷ given)
@@ -199,7 +199,7 @@ drawn_next form lead_in given block player size played =
     ap (λ (l : List Instr). instructions_in form lead_in given ++ l)
     (sym (drawn_with form lead_in given block player size played))
 
--- a player that takes a block or draws a pack, whatever it was given before
+-- a player feeds a block or draws a pack, after any earlier inputs
 pub fed_on : (block : List ℕ) (old new : LivePlayer) → length block ≡ 96 → TakesBlock block old new
     → PlaysOn (Fed block ∷ []) old new
 fed_on block old new size takes form lead_in given played =
@@ -228,7 +228,7 @@ begun form lead_in player words zero lead_in_is none none_bad =
       bad = omega (arith, none_bad, nothing);
     }
 
--- ---- blocks alone, and packs alone
+-- ---- only blocks, and only packs
 
 sized_before : (xs : List (List ℕ)) (x : List ℕ) → Sized 96 (xs ++ x ∷ []) → Sized 96 xs × (length x ≡ 96)
 sized_before [] x sized = (tt, sized.0)
@@ -275,7 +275,7 @@ live_view form lead_in given player played none =
           ∙ ap (λ ws. instrs_of (map finding ws)) (sym words));
     }
 
--- of a raw stream, all packs that came are whole where the program is
+-- in a raw stream, the packs so far are those that are complete in the program
 pub live_view_now : (lead_in : ℕ) (given : List Given) (player : LivePlayer)
     → HasPlayed Raw lead_in given player → packs_given given ≡ []
     → IsLiveViewAt Raw lead_in (length (blocks_in given) - lead_in) (blocks_in given) (standing_on player)

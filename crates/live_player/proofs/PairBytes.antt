@@ -25,7 +25,7 @@ of_pair size table entry p q n k p_lt q_lt n_is k_lt bytes =
           ∙ ap (λ m. get_or (get_or table m []) k 0) high,
     )
 
--- the first pairs are the first pixels, twice as many
+-- the first n pairs are the first 2 n pixels
 pub first_bytes : (size count : ℕ) (pixels : List ℕ) (table pairs : List (List ℕ)) (line : List ℕ)
     → 2 * count ≤ length pixels
     → ((i : ℕ) → i < length pixels → get_or pixels i 0 < 16)

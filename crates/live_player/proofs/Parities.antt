@@ -1,4 +1,4 @@
--- Valid parity is that of a codeword.
+-- A word has valid parity if and only if it is a codeword.
 use Rattle.std.proofs.Common.{◌≡◌, ◌≢◌, ◌<◌, ◌%◌, ◌&&◌, ◌==◌, ◌∙◌, if◌then◌else◌, Bool, false, ℕ, List, arith, length, map, take, Decides, ap, refl}
 use Rattle.std.proofs.lemmas.Bool.Decides.{Decides-and, Decides-below_and, Decides-eqb, Decides-like, nat_tests, same_from_decides}
 use Rattle.std.proofs.lemmas.List.{length-map}
@@ -13,7 +13,7 @@ sums_decided word n =
     Decides-below_and (λ j. weighted_sum j word == 0) (λ j. weighted_sum j word ≡ 0) (are_zero_sums word)
     (λ j. Decides-eqb (weighted_sum j word) 0) refl (λ _. refl) n
 
--- of a word the six sums say whether it is a codeword
+-- the six sums of a word decide whether it is a codeword
 pub parity_decided : (word : List ℕ) → IsWord word
     → Decides (are_zero_sums word 4 && are_zero_sums (take 4 word) 2) (IsCodeword word)
 parity_decided word is =
@@ -34,7 +34,7 @@ pack_is_word pack size = record {
 not_none : (n : ℕ) (b : Bool) → n ≢ 0 → b ≡ (if n == 0 then false else b)
 not_none n b other = grind (arith, nat_tests)
 
--- the sums of a word say what a test says that decides whether it is a codeword, where it differs from another word
+-- if a word differs from another one, its sums agree with each test that decides whether it is a codeword
 pub told_by_sums : (word symbols : List ℕ) (told : Bool) (different : ℕ) → word ≡ symbols → IsWord word
     → Decides told (IsCodeword word) → different ≢ 0
     → told ≡ (if different == 0 then false else are_zero_sums symbols 4 && are_zero_sums (take 4 symbols) 2)

@@ -9,7 +9,7 @@ use Rattle.cdg_screen.specs.Texts.{colour_bytes}
 use Rattle.cdg_screen.proofs.WholeRows.{else_before, else_behind, then_within}
 use Rattle.live_player.specs.Lives.{picture_byte}
 
--- ---- three bytes a pixel
+-- ---- three bytes per pixel
 
 byte_at : (now : Standing) (x y k n : ℕ) → x < 300 → k < 3 → n ≡ 3 * (300 * y + x) + k
     → picture_byte now n ≡ slice_index (colour_bytes (slice_index now.colours (screen_pixel now x y))) k
@@ -82,7 +82,7 @@ three_written now old new red green blue pixel x y x_lt is r g b before written 
 
 -- ---- parts of the screen
 
--- a row of a part was written behind those before it
+-- a row of a part was written behind the rows before it
 module _ (now : Standing) (piece old new first : List ℕ) (left top width stride j : ℕ)
     (size : length piece ≡ width) (apart : width ≤ stride)
     (shown : (i : ℕ) → i < width → get_or piece i 0 ≡ screen_pixel now (left + i) (top + j))

@@ -1,4 +1,4 @@
--- Places of a stream, some blocks or packs at a time.
+-- Places in a stream, at equal distances in blocks or packs.
 use Rattle.std.proofs.Common.{◌≡◌, ℕ, ◌+◌, ◌-◌, ◌*◌, ◌/◌, ◌%◌, ◌<◌, ◌≤◌, List, ◌++◌, drop, map, min, reverse, take, ap, ◌∙◌, arith}
 use Rattle.std.proofs.Math.Nat.{mul-le-mul_right}
 use Rattle.std.proofs.Math.Seq.{take-add}
@@ -22,7 +22,7 @@ before_end to every part some lt =
     let more : (part + 1) * every ≤ ceiling * every = mul-le-mul_right every (omega (arith, lt)) in
     omega (arith, bound, more, times every part)
 
--- and the last ends there
+-- and the last part ends there
 pub at_end : (to every part : ℕ) → 0 < every → to / every + min 1 (to % every) ≤ part
     → min to (every * part) ≡ to
 at_end to every part some past =
@@ -39,7 +39,7 @@ next_end to every part lt = omega (arith, lt, again every part)
 pub here : (to every part : ℕ) → every * part ≤ to → min to (every * part) ≡ every * part
 here to every part le = omega (arith, le)
 
--- the first blocks or packs, and some more
+-- the first blocks or packs, and `more` of them
 pub given_on : (gives : List ℕ → Given) (units : List (List ℕ)) (from more : ℕ)
     → given_first gives (from + more) units
     ≡ map gives (reverse (take more (drop from units))) ++ given_first gives from units

@@ -11,7 +11,7 @@ use Rattle.live_player.specs.Lives.{instruction_of}
 use Rattle.live_player.specs.declared.watch.Watch.{Watch}
 use Rattle.live_player.proofs.Idle.{once}
 
--- an instruction that says nothing of graphics
+-- the instruction does not concern graphics
 abbrev pub IsQuiet : Instr → Type 0
 IsQuiet instr = (instr ≡ Idle) ⊎ (instr ≡ Foreign)
 
@@ -22,7 +22,7 @@ by_mode word mode code other =
       | inr more ↦ inr (grind (arith, nat_tests))
     ]
 
--- the instruction of a pack whose first symbol is not 9
+-- a pack whose first symbol is not 9 has such an instruction
 pub is_quiet : (pack : List ℕ) → get_or pack 0 0 % 64 ≢ 9 → IsQuiet (instruction_of pack)
 unfolding instruction_of meaning
 is_quiet [] other = inl (λ i. Idle)

@@ -1,4 +1,4 @@
--- Pixels in rows, and rows in a room.
+-- Pixels in rows, and rows in a buffer.
 use Rattle.std.proofs.Common.{◌≡◌, ◌≢◌, ◌+◌, ◌-◌, ◌*◌, ◌<◌, ◌≤◌, ◌&&◌, ℕ, suc, if◌then◌else◌, List, [], length, get_or, take, drop, refl, subst, sym, ap, ◌∙◌, inl, inr, arith}
 use Rattle.std.specs.Prelude.{nat_le, nat_lt, slice_index}
 use Rattle.std.proofs.Math.Nat.{mul-le-mul_left}
@@ -18,13 +18,13 @@ use Rattle.live_player.specs.declared.format.PixelFormat.TheVariants.{Indexed, R
 
 -- ---- pixels in a row
 
--- the place of byte k of pixel i, in a row of so many pixels
+-- the place of byte k of pixel i is in a row of `width` pixels
 pub in_row : (size i k width : ℕ) → i < width → k < size → size * i + k < size * width
 in_row size i k width i_lt k_lt =
     let next : size * suc i ≤ size * width = mul-le-mul_left size (omega (arith, i_lt)) in
     omega (arith, next, k_lt)
 
--- pixels with four bytes where the last one of so many has room for four
+-- each pixel has room for four bytes, if the last one has
 pub in_room : (size i count room : ℕ) → i < count → size * count + 4 ≤ room + size → size * i + 4 ≤ room
 in_room size i count room lt fits =
     let next : size * suc i ≤ size * count = mul-le-mul_left size (omega (arith, lt)) in
@@ -36,7 +36,7 @@ from_there at n a b from = grind (arith, nat_tests)
 before_there : (at n a b : ℕ) → n < at → (if nat_le at n then a else b) ≡ b
 before_there at n a b lt = grind (arith, nat_tests)
 
--- so many bytes that were written to a place as a vector, up to their end
+-- bytes that were written to a part of a line
 pub bytes_put : (count : ℕ) (line bytes : List ℕ) (at n : ℕ) → at + count ≤ length line → length bytes ≡ count
     → n < at + count
     → get_or (put_mid at (at + count - at) line (put_chunk 0 (take (at + count - at) (drop at line)) bytes)) n
@@ -57,7 +57,7 @@ bytes_put count line bytes at n fits size lt =
           ∙ sym (from_there at n _ _ from)
     ]
 
--- so many bytes were written for pixel i, which has no more, behind those before it
+-- all bytes of pixel i (and perhaps others) were written behind those before it
 pub pixel_more : (old new four : List ℕ) (byte : ℕ → ℕ → ℕ) (size count i : ℕ) → size ≤ count
     → ((k : ℕ) → get_or four k 0 ≡ byte i k)
     → ((n : ℕ) → n < size * i + count
@@ -80,9 +80,9 @@ pixel_more old new four byte size count i size_le is written before m k m_lt k_l
       ∙ ap (λ j. byte j k) (sym same)
 ]
 
--- ---- rows in a room
+-- ---- rows in a buffer
 
--- a row of a part was written behind those before it: byte k of pixel i of row j is told by `byte`
+-- a row of a part was written behind the rows before it: `byte` gives byte k of pixel i of row j
 module _ (byte : ℕ → ℕ → ℕ → ℕ) (piece old new first : List ℕ) (size width stride j : ℕ)
     (long : length piece ≡ size * width) (apart : size * width ≤ stride)
     (shown : (i k : ℕ) → i < width → k < size → get_or piece (size * i + k) 0 ≡ byte i j k)
@@ -140,7 +140,7 @@ module _ (byte : ℕ → ℕ → ℕ → ℕ) (piece old new first : List ℕ) (
         ]
       ]
 
--- a row's part that was written is as many bytes
+-- the length of the written part of a row
 pub part_long : (out : List ℕ) (at count bytes : ℕ) → at + count ≤ length out → count ≡ bytes
     → length (take (at + count - at) (drop at out)) ≡ bytes
 part_long out at count bytes fits is =
@@ -159,7 +159,7 @@ shown_pixel format now table x y number k is small k_lt bytes =
     ∙ ap (λ (l : List ℕ). get_or l k 0) (bytes number small)
     ∙ ap (λ p. get_or (pixel_bytes format p (slice_index now.colours p) (slice_index now.levels p)) k 0) is
 
--- a pixel that is a number alone
+-- the byte of a pixel in the format of colour numbers
 pub shown_number : (format : PixelFormat) (now : Standing) (x y number k : ℕ) → format ≡ Indexed
     → number ≡ screen_pixel now x y
     → k < pixel_size format
@@ -171,7 +171,7 @@ shown_number format now x y number k indexed is lt =
     ∙ ap (λ n. get_or (shown_bytes Indexed now x y) n 0) (sym first)
     ∙ ap (λ f. get_or (shown_bytes f now x y) k 0) (sym indexed)
 
--- a part that is numbers alone
+-- a part in the format of colour numbers
 pub part_shows : (format : PixelFormat) (now : Standing) (part : ScreenPart) (stride : ℕ) (old new : List ℕ)
     → format ≡ Indexed
     → ShowsPart now part stride old new
@@ -191,7 +191,7 @@ part_shows format now part stride old new indexed shows =
 
 -- ---- a row of a part
 
--- the bytes of pixels of a row of the screen are those that the pixels show
+-- the bytes of the pixels of a row are those that the screen shows
 pub line_shows : (format : PixelFormat) (now : Standing) (table : List (List ℕ)) (pixels line : List ℕ)
     (left width y : ℕ) → length pixels ≡ width
     → ((i : ℕ) → i < width → get_or pixels i 0 ≡ screen_pixel now (left + i) y)
@@ -205,7 +205,7 @@ line_shows format now table pixels line left width y long shown range bytes writ
     written i k (omega (arith, long, i_lt)) k_lt
     ∙ shown_pixel format now table (left + i) y (get_or pixels i 0) k (shown i i_lt) (range i) k_lt bytes
 
--- the bytes of so many pixels, by how many bytes each of the format has
+-- the bytes of pixels, from the number of bytes per pixel
 pub of_size : (format : PixelFormat) (size : ℕ) (pixels : List ℕ) (table : List (List ℕ)) (line : List ℕ)
     → pixel_size format ≡ size
     → AreLineBytes size pixels table line → AreLineBytes (pixel_size format) pixels table line

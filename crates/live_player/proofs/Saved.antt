@@ -1,4 +1,4 @@
--- A player that is at the checkpoint of another's file goes on as the other.
+-- A player that was restored from the file of another player continues as this one.
 use Rattle.std.proofs.Common.{◌≡◌, ℕ, zero, suc, ◌+◌, ◌-◌, ◌*◌, ◌/◌, ◌<◌, ◌≤◌, List, [], ◌++◌, length, get_or, map, drop, replicate, refl, sym, ap, ◌∙◌, subst, arith, length-append, length-drop}
 use Rattle.std.specs.Prelude.{is_none, min}
 use Rattle.std.specs.List.{flat_map}

@@ -18,7 +18,7 @@ in_middle : (P : Part → Type 0) (early : List Part) (part : Part) (late : List
 in_middle P [] part late all = all.0
 in_middle P (x ∷ early) part late all = in_middle P early part late all.1
 
--- no file is valid and has an invalid field
+-- no valid file has an invalid field
 not_both : (file : List ℕ) (byte : ℕ) → IsBadAt file byte → IsCheckpointFile file → ⊥
 not_both file byte bad is =
     let first = bad.field is.size in
@@ -31,7 +31,7 @@ pub is_none : (file : List ℕ) (byte : ℕ) (live : LivePlayer) → file ≡ fi
     → ¬ IsCheckpointFile (file_of (checkpoint_of live))
 is_none file byte live same bad is = not_both file byte bad (subst IsCheckpointFile (sym same) is)
 
--- the file of a player with too long a lead-in is not valid
+-- the file of a player with a lead-in that is too long is not valid
 pub long_lead_in : (live : LivePlayer) (count : ℕ) → live.lead_in ≡ count → count < 2 ^ 32
     → ((c : Checkpoint) → c.to_come < 2 ^ 32 → number (file_of c) ToCome 0 ≡ c.to_come)
     → ((c : Checkpoint) → c.lead_in < 2 ^ 32 → number (file_of c) LeadIn 0 ≡ c.lead_in)
@@ -87,7 +87,7 @@ writes player old new raw short is = record {
   untouched = λ other. absurd (other refl);
 }
 
--- the facts of one that refuses it
+-- the facts of a call that refuses to save a player
 pub refuses : (player : LivePlayer) (file : List ℕ) → CannotBeSaved player
     → SavesLive player file file (negsuc 0)
 refuses player file cannot = record {
@@ -101,7 +101,7 @@ refuses player file cannot = record {
   untouched = λ other. refl;
 }
 
--- the facts of one that is out of memory
+-- the facts of a call that is out of memory
 pub lacks_memory : (player : LivePlayer) (file : List ℕ) → player.words.form ≡ Raw → ¬ IsTooLong player
     → SavesLive player file file (pos 7)
 lacks_memory player file raw short = record {

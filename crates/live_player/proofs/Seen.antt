@@ -1,4 +1,4 @@
--- Instructions one after the other.
+-- Instructions one after another.
 use Rattle.std.proofs.Common.{◌≡◌, ℕ, suc, ◌+◌, ◌<◌, List, [], ◌∷◌, ◌++◌, length, get_or, map, take, reverse, append_assoc, append-nil, refl, sym, ap, ◌∙◌, subst, arith}
 use Rattle.std.proofs.Math.Seq.{take-suc}
 use Rattle.std.proofs.lemmas.List.{reverse-append}
@@ -15,13 +15,13 @@ pub one_more : {X : Type 0} (xs : List X) (i : ℕ) (d : X) → i < length xs
     → take (i + 1) xs ≡ take i xs ++ get_or xs i d ∷ []
 one_more xs i d lt = let next : i + 1 ≡ suc i = omega arith in ap (λ n. take n xs) next ∙ take-suc xs i d lt
 
--- what is given in turn, the last one first
+-- inputs in reverse order, with one more
 pub given_more : (gives : List ℕ → Given) (xs : List (List ℕ)) (x : List ℕ) (given : List Given)
     → map gives (reverse (xs ++ x ∷ [])) ++ given ≡ gives x ∷ (map gives (reverse xs) ++ given)
 given_more gives xs x given =
     ap (λ (l : List (List ℕ)). map gives l ++ given) (reverse-append xs (x ∷ []))
 
--- blocks that were taken in turn, and one more
+-- one more block was fed
 pub takes_more : (blocks : List (List ℕ)) (block : List ℕ) (before now after : LivePlayer)
     → TakesBlocks blocks before now → TakesBlock block now after
     → TakesBlocks (blocks ++ block ∷ []) before after
@@ -30,7 +30,7 @@ takes_more [] block before now after same takes =
 takes_more (first ∷ rest) block before now after took takes =
     (took.0, took.1, takes_more rest block took.0 now after took.2 takes)
 
--- the instructions that come with them
+-- and the instructions that the blocks draw
 pub instructions_more : (blocks : List (List ℕ)) (block : List ℕ) (before now : LivePlayer)
     → TakesBlocks blocks before now
     → instructions_from before.words (blocks ++ block ∷ [])

@@ -14,14 +14,14 @@ use Rattle.stream_stages.specs.declared.block_words.BlockWords.{BlockWords}
 use Rattle.stream_stages.proofs.Slots.{Sized, slots_sized}
 use Rattle.live_player.proofs.Words.{rest_of}
 
--- a slot: 24 symbols
+-- the slot has 24 symbols
 abbrev pub IsSlot : List ℕ → Type 0
 IsSlot slot = (length slot ≡ 24) × (symbols_of slot ≡ slot)
 
 abbrev pub AreSlots : List (List ℕ) → Type 0
 AreSlots slots = AllByRecursion IsSlot slots
 
--- ---- slots that are gathered
+-- ---- gathered slots
 
 slots_append : (xs ys : List (List ℕ)) → AreSlots xs → AreSlots ys → AreSlots (xs ++ ys)
 slots_append [] ys a b = b
@@ -55,7 +55,7 @@ unfolding window_next
 raw_window w [] = refl
 raw_window w (s ∷ slots) = raw_window (gather_next w s) slots
 
--- few slots are all kept
+-- up to seven slots are all kept
 grown : (w slots : List (List ℕ)) → length w + length slots ≤ 7 → run_state gather_next w slots ≡ w ++ slots
 grown w [] few = sym (append-nil w)
 grown w (s ∷ slots) few =
@@ -111,7 +111,7 @@ slots_back before k (s ∷ slots) size all =
     (sym (append_assoc before s (concat slots)))
     ∙ slots_back (before ++ s) (k + 1) slots (omega (arith, size, all.0.0, length-append before s)) all.1)
 
--- the last seven slots are gathered from the symbols that are kept of them
+-- the last seven slots can be restored from their saved symbols
 pub gathered_again : (slots : List (List ℕ)) (m : ℕ) → AreSlots slots → length slots ≤ 7 → m ≡ length slots
     → run_state gather_next []
     (map (λ n. symbols_of (take 24 (drop (24 * n) (kept_symbols slots)))) (range_with_len (7 - m) m))
@@ -124,7 +124,7 @@ gathered_again slots m all few count =
     (slots_back zeros (7 - length slots) slots (length-replicate {A = ℕ} (24 * (7 - length slots)) 0) all)
     ∙ grown [] slots (omega (arith, few))
 
--- ---- the form and the lead-in of a stream that goes on
+-- ---- the form and the lead-in of a resumed stream
 
 form_by : (ended : Bool) (s other : BlockWords) → other.form ≡ s.form
     → (cond ended other (record s { lead_in = s.lead_in - 1 })).form ≡ s.form

@@ -1,4 +1,4 @@
--- The numbers of all that a player was given are in their ranges, and so is what stands.
+-- The numbers in all inputs of a player are in their ranges, and so is its standing.
 use Rattle.std.proofs.Common.{◌≡◌, ℕ, zero, suc, ◌+◌, ◌*◌, ◌/◌, ◌%◌, ◌<◌, ◌≤◌, List, [], ◌∷◌, ◌++◌, length, get_or, map, drop, ap, ◌∙◌, arith, Some, None, inl, inr}
 use Rattle.std.specs.Prelude.{Option}
 use Rattle.std.specs.List.{AllByRecursion, flat_map, range_with_len}
@@ -125,7 +125,7 @@ stream_small lead_in blocks =
     all_range IsWord (form_word Raw symbols) 0 (word_count Raw (length symbols / 96))
     (λ n. gathered_word symbols n (symbols_small (drop lead_in blocks)))
 
--- ---- all of it
+-- ---- all inputs
 
 all_after : (xs ys : List Instr) → AllByRecursion IsSmall xs → AllByRecursion IsSmall ys
     → AllByRecursion IsSmall (xs ++ ys)

@@ -1,4 +1,4 @@
--- What a pack means that draws a tile.
+-- The instruction of a pack that draws a tile.
 use Rattle.std.proofs.Common.{◌≡◌, ◌⊎◌, ◌%◌, ◌==◌, ◌∙◌, Bool, false, true, ℕ, List, [], ◌∷◌, ap, drop, get_or, inl, inr, refl, sym}
 use Rattle.cdg_instructions.specs.Effect.{effect_of}
 use Rattle.cdg_instructions.specs.Instruction.{content_of}
@@ -21,7 +21,7 @@ tile_in word exclusive = record {
   exclusive = exclusive;
 }
 
--- the instructions that draw it
+-- the instruction that sets it
 abbrev pub set_in : List ℕ → Instr
 set_in word = SetTile (get_or word 4 0 % 16) (get_or word 5 0 % 16) (get_or word 6 0 % 32) (get_or word 7 0)
     (drop 4 (content_of word))

@@ -1,4 +1,4 @@
--- The words that come with one more block.
+-- The words that end with one more block.
 use Rattle.std.proofs.Common.{◌≡◌, ℕ, zero, suc, ◌/◌, List, [], ◌∷◌, ◌++◌, length, map, refl, ap, ap₂, ◌∙◌, sym, arith, None, Some}
 use Rattle.std.specs.declared.option.Option.{Option}
 use Rattle.std.specs.Prelude.{drop}
@@ -53,7 +53,7 @@ pub rest_of : {A : Type 0} (xs ys : List A) → drop (length xs) (xs ++ ys) ≡ 
 rest_of [] ys = refl
 rest_of (x ∷ xs) ys = rest_of xs ys
 
--- no block was fed yet
+-- no block has been fed
 no_blocks : (lead_in : ℕ) → drop {A = List ℕ} lead_in [] ≡ []
 no_blocks zero = refl
 no_blocks (suc n) = refl
@@ -82,7 +82,7 @@ more_words form lead_in blocks block gather size sized now =
     ∙ ap (λ (l : List (List ℕ)). l ++ all_items (give (words_give gather block) []))
     (block_words form lead_in start blocks refl ∙ words_of_stream form lead_in blocks sized)
 
--- those that come with a block
+-- the words that end with a block
 pub words_come : (form : Form) (lead_in : ℕ) (blocks : List (List ℕ)) (block : List ℕ) (gather : BlockWords)
     → length block ≡ 96 → Sized 96 blocks
     → gather ≡ run_state words_next (fresh_words form lead_in) blocks
@@ -92,7 +92,7 @@ words_come form lead_in blocks block gather size sized now =
     (more_words form lead_in blocks block gather size sized now)
     ∙ rest_of (stream_words form lead_in blocks) (all_items (give (words_give gather block) []))
 
--- and with those before they are all
+-- with the earlier words, they are all words
 pub words_go_on : (form : Form) (lead_in : ℕ) (blocks : List (List ℕ)) (block : List ℕ) → length block ≡ 96
     → Sized 96 blocks
     → stream_words form lead_in (blocks ++ block ∷ [])
@@ -103,7 +103,7 @@ words_go_on form lead_in blocks block size sized =
     ∙ ap (λ (l : List (List ℕ)). stream_words form lead_in blocks ++ l)
     (sym (words_come form lead_in blocks block gather size sized refl))
 
--- what a block gives is more of the words, whatever came
+-- the output for a block is the next words, whatever came before
 pub given_words : (form : Form) (lead_in : ℕ) (blocks : List (List ℕ)) (block : List ℕ) (gather : BlockWords)
     (words : ArrayVec (List ℕ))
     → length block ≡ 96 → Sized 96 blocks → gather ≡ run_state words_next (fresh_words form lead_in) blocks

@@ -1,4 +1,4 @@
--- The bytes of blocks: their bits P and Q, and their symbols.
+-- The bytes of blocks: their P and Q bits, and their symbols.
 use Rattle.std.proofs.Common.{◌≡◌, ℕ, ◌+◌, ◌/◌, ◌%◌, ◌<◌, List, length, get_or, sym, ◌∙◌, subst, arith, below_more}
 use Rattle.std.specs.Prelude.{Option, None}
 use Rattle.std.proofs.Math.ListN.{set}
@@ -38,7 +38,7 @@ unfolding completed
 completed_long known block =
     length-map-range_with_len (λ (j : ℕ). symbol_or (get_or known j None) (get_or block j 0)) 0 96
 
--- a list of these symbols
+-- a completed list has these symbols
 pub completed_is : (known : List (Option ℕ)) (block symbols : List ℕ) → length symbols ≡ 96
     → ((k : ℕ) → k < 96 → get_or symbols k 0 ≡ symbol_or (get_or known k None) (get_or block k 0))
     → symbols ≡ completed known block
@@ -47,7 +47,7 @@ completed_is known block symbols size each =
     let small : k < 96 = omega (arith, lt, size) in
     each k small ∙ sym (completed_at known block k small))
 
--- a block of the bits P and Q of one, and of these symbols
+-- a block with the P and Q bits of one block and with these symbols
 pub block_of_bytes : (known : List (Option ℕ)) (framed read block : List ℕ) → length framed ≡ 96
     → length block ≡ 96
     → ((k : ℕ) → k < 96 → get_or block k 0 / 64 ≡ get_or framed k 0 / 64)
@@ -60,7 +60,7 @@ block_of_bytes known framed read block framed_long long high low = record {
       symbol_at block k (omega (arith, lt, long)) ∙ low k lt);
 }
 
--- one byte more that is written
+-- one more byte is written
 pub byte_set : (P : ℕ → ℕ → Type 0) (block : List ℕ) (k x : ℕ) → k < length block
     → ((j : ℕ) → j < k → P j (get_or block j 0)) → P k x → (j : ℕ) → j < k + 1
     → P j (get_or (set block k x) j 0)

@@ -1,4 +1,4 @@
--- What is mended is a codeword, and the number of a reading names its source.
+-- A mended word is a codeword, and its source is the number of a reading.
 use Rattle.std.proofs.Common.{◌≡◌, ◌≢◌, ℕ, zero, suc, ◌+◌, ◌*◌, ◌<◌, ◌≤◌, List, [], ◌∷◌, ◌++◌, length, get_or, Some, None, refl, sym, ap, ◌∙◌, subst, inl, inr, arith}
 use Rattle.std.specs.declared.option.Option.{Option}
 use Rattle.std.proofs.lemmas.List.{get_or_append_left, get_or-append-add}
@@ -14,7 +14,7 @@ use Rattle.rw_mend.specs.declared.candidates.Candidate.{Candidate}
 use Rattle.rw_mend.specs.declared.candidates.Candidate.TheVariants.{Silent, Lost, Near}
 use Rattle.rw_mend.proofs.Givens.{given_codeword}
 
--- a candidate that is a codeword is near it
+-- a candidate that is a codeword is a `Near`
 near_of : (candidate : Candidate) (codeword : List ℕ) → IsOf codeword candidate
     → (doubts : ℕ) × (candidate ≡ Near codeword doubts)
 near_of Silent codeword is = absurd is
@@ -70,7 +70,7 @@ source_of Agreed candidates codeword mended is few by same =
     sym (ap (λ s. source_byte (Some (record { pack = mended.pack; source = s }))) is) ∙ same in
     omega (arith, number)
 
--- and its source is not told as none
+-- and its source is the number of a reading
 pub own_source : (words : ℕ) (programs : List (List ℕ)) (said : List (List Candidate))
     (found : List (Option Mended)) (n : ℕ) (own : Mended) → AreMended words programs said found → n < words
     → length programs ≤ 254 → get_or found n None ≡ Some own → source_byte (get_or found n None) ≢ 255

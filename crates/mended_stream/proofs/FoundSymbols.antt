@@ -1,4 +1,4 @@
--- The symbols of what is found for words, in their places.
+-- The symbols of the mended words, at their places.
 use Rattle.std.proofs.Common.{◌≡◌, ℕ, ◌+◌, ◌-◌, ◌*◌, ◌/◌, ◌%◌, ◌<◌, List, [], length, get_or, refl, sym, ap, ◌∙◌, inl, inr, arith}
 use Rattle.std.specs.Prelude.{Some, None, if◌then◌else◌}
 use Rattle.std.specs.declared.option.Option.{Option}
@@ -57,7 +57,7 @@ found_by lead_in found p n (Some own) is within slot free =
       place = stands_at lead_in n p slot;
     }))
 
--- at another place there is none
+-- any other place has no symbol
 pub mended_nowhere : (lead_in : ℕ) (found : List (Option Mended)) (p : ℕ)
     → ((n i : ℕ) (own : Mended) → ¬ IsMendedPlace lead_in found p n i own)
     → mended_symbol lead_in found p ≡ None
@@ -77,7 +77,7 @@ mended_nowhere lead_in found p free =
           ]
     ]
 
--- a block of the channels and the symbols that are chosen
+-- a block with the chosen channels and symbols is the mended block
 pub mended_block : (lead_in : ℕ) (readings : List (List ℕ)) (found : List (Option Mended)) (b : ℕ)
     (block : List ℕ)
     → length block ≡ 96

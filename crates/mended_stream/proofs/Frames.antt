@@ -40,7 +40,7 @@ same_frame : (one other : List ℕ) → q_bits one ≡ q_bits other → is_frame
 unfolding is_framed_block
 same_frame one other same = ap (λ bits. is_ok (reading_of bits)) same
 
--- ---- A rank that is at most another has at most as many votes, if the matches are the same.
+-- ---- A lower or equal rank has no more votes, if the matches are equal.
 
 votes_by : (o : Ordering) (n m : ℕ) (rest : Ordering) → o ≡ nat_cmp n m → is_gt (ordering_then o rest) ≡ false
     → n ≤ m
@@ -78,7 +78,7 @@ channels_chosen blocks block chosen =
           same_frame block own q ∙ sym (framed_eligible blocks own any) ∙ chosen.eligible;
     }
 
--- the part of all eligible blocks is chosen
+-- if all eligible blocks have the same part, it is chosen
 pub all_agree : (rule : Rule) (blocks : List (List ℕ)) (n : ℕ) (part other : List ℕ) → length blocks ≡ n
     → IsChosen rule blocks part
     → ((r : ℕ) → r < n → rule.is_eligible (get_or blocks r []) ≡ true

@@ -37,7 +37,7 @@ pub held_count : (readings : HeldReadings) (b : ℕ) → length (held_blocks rea
 held_count readings b =
     blocks_length (held_parts readings) b ∙ parts_length readings.count readings.size readings.bytes.now
 
--- a part that each block has is that of the first
+-- if all blocks have the same part, each has the part of the first block
 pub same_part : (part : List ℕ → List ℕ) (blocks : List (List ℕ)) (n : ℕ) (own : List ℕ) → length blocks ≤ n
     → ((k : ℕ) → k < n → part (get_or blocks k []) ≡ own) → (r : ℕ) → r < length blocks
     → part (get_or blocks r []) ≡ part (get_or blocks 0 [])

@@ -1,4 +1,4 @@
--- Ranks of blocks: there is a highest, and its part is the only one that is chosen.
+-- Ranks of blocks: a highest rank exists, and only its part is chosen.
 use Rattle.std.proofs.Common.{◌≡◌, ℕ, zero, suc, ◌+◌, ◌<◌, ◌≤◌, Bool, true, false, ◌&&◌, ◌||◌, List, [], ◌∷◌, length, get_or, refl, sym, ap, ap₂, ◌∙◌, subst, inl, inr, arith, below_more}
 use Rattle.std.specs.Prelude.{◌⊎◌, Some, if◌then◌else◌, not}
 use Rattle.std.specs.Cmp.Lexicographic.{slice_cmp, slice_partial_cmp, texts_ties}
@@ -108,7 +108,7 @@ any_channels blocks = channels_by (list_any is_framed_block blocks) blocks refl
 
 -- ---- The highest rank.
 
--- reading r has the highest rank of the first n
+-- reading r has the highest rank of the first n readings
 pub record IsHighest (rule : Rule) (blocks : List (List ℕ)) (n r : ℕ) : Type 0 where
   pub within : r < n
   pub eligible : rule.is_eligible (get_or blocks r []) ≡ true
@@ -208,7 +208,7 @@ chosen_same_by rule blocks part (inl none) same any =
 chosen_same_by rule blocks part (inr have) same any =
     chosen_by rule blocks (length blocks) have.0 part refl have.1 (sym (same have.0 have.1.within))
 
--- a part that all blocks have is the one that is chosen
+-- a part that all blocks have is chosen
 pub chosen_same : (rule : Rule) (blocks : List (List ℕ)) (part : List ℕ)
     → ((r : ℕ) → r < length blocks → rule.part (get_or blocks r []) ≡ part)
     → IsAny rule.is_eligible blocks → IsChosen rule blocks part
@@ -235,7 +235,7 @@ gt_is =
 level : (n m : ℕ) → n ≡ m → nat_cmp n m ≡ Equal
 level n m same = ap (nat_cmp n) (sym same) ∙ tied_itself nat_cmp_total n
 
--- ranks of as many matches and votes
+-- ranks with equal matches and votes
 pub higher_part : (rule : Rule) (blocks : List (List ℕ)) (one other : List ℕ) (m m' v v' : ℕ)
     (own its : List ℕ) (r : Bool) → r ≡ is_gt (slice_cmp nat_cmp own its) → m ≡ rule.matches one
     → m' ≡ rule.matches other → own ≡ rule.part one → its ≡ rule.part other → v ≡ votes_for rule blocks own
@@ -260,9 +260,9 @@ higher_part rule blocks one other m m' v v' own its r is matches matches' own_is
     (slice_cmp nat_cmp (rule.part one) (rule.part other))))) first
     ∙ ap (λ o. is_gt (ordering_then o (slice_cmp nat_cmp (rule.part one) (rule.part other)))) second)
 
--- ---- The reading that leads among the first n.
+-- ---- The leading reading of the first n.
 
--- it is eligible if one of them is, and none of them has a higher rank
+-- reading h is eligible if any is, and none has a higher rank
 pub record IsLeading (rule : Rule) (blocks : List (List ℕ)) (n h : ℕ) : Type 0 where
   pub eligible : (k : ℕ) → k < n → rule.is_eligible (get_or blocks k []) ≡ true
       → rule.is_eligible (get_or blocks h []) ≡ true
@@ -326,7 +326,7 @@ leading_kept rule blocks n h kept have =
           (sym (ap (λ t. t && other) own) ∙ kept)).1);
     }
 
--- the one that leads among all is chosen
+-- the reading that leads at the end is chosen
 pub leading_chosen : (rule : Rule) (blocks : List (List ℕ)) (n h : ℕ) → length blocks ≤ n
     → h < length blocks → IsAny rule.is_eligible blocks → IsLeading rule blocks n h
     → IsChosen rule blocks (rule.part (get_or blocks h []))
@@ -338,7 +338,7 @@ leading_chosen rule blocks n h all within any have = record {
   highest = λ k lt own. have.highest k (omega (arith, lt, all)) own;
 }
 
--- ---- How a test of the lead ends.
+-- ---- The result of comparing two readings.
 
 pub leads_not : (a rest : Bool) → a ≡ false → false ≡ (a && rest)
 leads_not a rest is = sym (ap (λ t. t && rest) is)
@@ -351,7 +351,7 @@ pub leads_if : (a b above r : Bool) → a ≡ true → b ≡ true → r ≡ abov
 leads_if a b above r is other same =
     same ∙ sym (ap (λ t. t && (not b || above)) is ∙ ap (λ t. not t || above) other)
 
--- ranks of as many matches and of the same part
+-- ranks with equal matches and the same part
 pub same_ranks : (rule : Rule) (blocks : List (List ℕ)) (one other : List ℕ) (m m' : ℕ) (own its : List ℕ)
     (same : Bool) → same ≡ bytes_eq own its → same ≡ true → m ≡ rule.matches one → m' ≡ rule.matches other
     → own ≡ rule.part one → its ≡ rule.part other → m ≡ m'

@@ -32,7 +32,7 @@ use Rattle.mended_stream.proofs.Streaming.{first_long}
 
 -- ---- A rule on blocks in another order.
 
--- two rules say the same of each block
+-- the two rules agree on each block
 pub record AreSameRules (rule other : Rule) : Type 0 where
   pub eligible : (block : List ℕ) → rule.is_eligible block ≡ other.is_eligible block
   pub matches : (block : List ℕ) → rule.matches block ≡ other.matches block
@@ -90,7 +90,7 @@ turned_rules rule other same = record {
   part = λ block. sym (same.part block);
 }
 
--- the same is chosen
+-- both lists have the same chosen part
 pub same_chosen : (rule other : Rule) (xs ys : List (List ℕ)) (one two : List ℕ) → AreSameRules rule other
     → IsPermutation xs ys → IsChosen rule xs one → IsChosen other ys two → one ≡ two
 same_chosen rule other xs ys one two same is c d =
@@ -137,7 +137,7 @@ symbol_rules known other xs ys same is = record {
   part = λ block. ap (λ k. completed k block) same;
 }
 
--- ---- What is found for words.
+-- ---- The words that are found.
 
 same_found : (programs others : List (List ℕ)) (n i : ℕ) (one other : Option Mended)
     → IsSameFind programs others n one other → found_symbol one i ≡ found_symbol other i

@@ -1,4 +1,4 @@
--- Where the symbols of words are in a stream.
+-- The places of the symbols of words in a stream.
 use Rattle.std.proofs.Common.{◌≡◌, ◌≢◌, ℕ, ◌+◌, ◌-◌, ◌*◌, ◌/◌, ◌%◌, ◌<◌, Bool, true, false, ◌==◌, List, get_or, refl, sym, ap, inl, inr, ◌∙◌, arith}
 use Rattle.std.specs.Prelude.{Option, Some, None, ◌&&◌, if◌then◌else◌, nat_lt, not}
 use Rattle.std.proofs.lemmas.Bool.{cases_lt, eq-eqb, eqb-true, le-ltb, lt-ltb, ne_eqb}
@@ -9,7 +9,7 @@ use Rattle.mended_stream.specs.Chosen.{symbol_or}
 use Rattle.mended_stream.specs.Symbols.{first_slot, held_symbol, stream_place, text_symbol}
 use Rattle.mended_stream.specs.declared.words.Words.{Words}
 
--- symbols that are exchanged are exchanged back
+-- whether exchanging symbol i twice changes nothing
 turns_back : ℕ → Bool
 turns_back i = swapped (swapped i) == i
 
@@ -32,7 +32,7 @@ slot_of lead_in n i p lt at =
     let slot : p / 24 ≡ 4 * lead_in + (n + s % 8) = omega (arith, here, small) in
     (position, slot ∙ omega (arith, ap (λ q. q % 8) position))
 
--- which symbol it is follows from them
+-- the number of a symbol in its word, from its place
 pub symbol_of : (lead_in n i p : ℕ) → i < 24 → stream_place lead_in n i ≡ p → i ≡ swapped (p % 24)
 symbol_of lead_in n i p lt at =
     sym (swapped-swapped i lt) ∙ ap swapped (sym (slot_of lead_in n i p lt at).0)
@@ -54,7 +54,7 @@ none_before words text p before =
     ap (λ t. if t then None else text_symbol words text p (p / 24 - first_slot words.lead_in p))
     (lt-ltb (p / 24) (4 * words.lead_in + p % 24 % 8) before)
 
--- word n is there
+-- word n has a symbol there
 pub word_there : (words : Words) (text : List ℕ) (p n : ℕ) → p / 24 ≡ 4 * words.lead_in + p % 24 % 8 + n
     → held_symbol words text p ≡ text_symbol words text p n
 unfolding held_symbol
@@ -79,12 +79,12 @@ lost_by words text p n lost =
           (le-ltb n words.count outside)
     ]
 
--- word n is there, and was not mended
+-- word n has a symbol there, but was not mended
 pub none_there : (words : Words) (text : List ℕ) (p n : ℕ) → p / 24 ≡ 4 * words.lead_in + p % 24 % 8 + n
     → (n < words.count → get_or words.sources.now n 0 ≡ 255) → held_symbol words text p ≡ None
 none_there words text p n slot lost = word_there words text p n slot ∙ lost_by words text p n lost
 
--- it was
+-- word n was mended
 pub symbol_there : (words : Words) (text : List ℕ) (p n : ℕ) → p / 24 ≡ 4 * words.lead_in + p % 24 % 8 + n
     → n < words.count → get_or words.sources.now n 0 ≢ 255
     → held_symbol words text p ≡ Some (get_or text (24 * n + swapped (p % 24)) 0 % 64)

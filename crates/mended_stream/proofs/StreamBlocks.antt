@@ -27,7 +27,7 @@ block_with stream block b inside size each =
     let small : k < 96 = omega (arith, lt, block_long stream b inside) in
     block_byte stream b k small ∙ each k small)
 
--- streams with the same bytes there have the same block
+-- streams with the same bytes there have equal blocks
 pub block_same : (stream other : List ℕ) (b : ℕ) → 96 * b + 96 ≤ length stream
     → 96 * b + 96 ≤ length other
     → ((k : ℕ) → k < 96 → get_or stream (96 * b + k) 0 ≡ get_or other (96 * b + k) 0)

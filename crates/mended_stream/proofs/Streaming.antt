@@ -1,4 +1,4 @@
--- A stream that was written over the text of its words is the mended one.
+-- A stream that was written over the text of its words is the mended stream.
 use Rattle.std.proofs.Common.{◌≡◌, ◌≢◌, ℕ, ◌+◌, ◌-◌, ◌*◌, ◌/◌, ◌%◌, ◌<◌, ◌≤◌, List, [], ◌++◌, length, get_or, map, take, drop, Some, None, refl, sym, ap, ◌∙◌, subst, inl, inr, arith, append-nil, append_assoc, length-append, length-drop}
 use Rattle.std.specs.Prelude.{slice_range}
 use Rattle.std.proofs.Math.Nat.{mul-le-mul_right}
@@ -30,7 +30,7 @@ use Rattle.mended_stream.proofs.Standing.{none_before, none_there, symbol_there}
 use Rattle.mended_stream.proofs.StreamBlocks.{block_long, block_same}
 use Rattle.mended_stream.proofs.Codewords.{own_codeword, own_long, own_source, text_at}
 
--- the text of words that were found has their symbols
+-- the text of mended words contains their symbols
 word_symbol : (lead_in : ℕ) (programs : List (List ℕ)) (said : List (List Candidate))
     (found : List (Option Mended)) (words : Words) (text : List ℕ) (p n : ℕ) (own : Option Mended)
     → AreMended (length found) programs said found → length programs ≤ 254 → words.count ≡ length found
@@ -92,7 +92,7 @@ held_is_mended lead_in programs said found words text p are few count begin sour
 
 -- ---- The buffer.
 
--- text that is put at the end of the stream's place is behind what stays before it
+-- text that is written at the end of the buffer is behind the bytes before it
 text_put : (old packs now : List ℕ) (start size : ℕ) → now ≡ take start old ++ packs ++ drop size old
     → start ≤ length old → drop start now ≡ packs ++ drop size old
 text_put old packs now start size is fits =
@@ -108,7 +108,7 @@ behind_text old packs now start size is fits long =
     ∙ drop_at (take start old ++ packs) (drop size old) size
     (length-append (take start old) packs ∙ omega (arith, front, long))
 
--- what is put in place of so many bytes
+-- text that replaces as many bytes
 whole_text : (found : List (Option Mended)) (old new : List ℕ)
     → new ≡ mended_text found ++ drop (length (mended_text found)) old
     → length old ≡ length (mended_text found) → new ≡ mended_text found
@@ -133,7 +133,7 @@ first_long count size readings some long =
     (part_at count size readings 0 some ∙ ap (λ n. take size (drop n readings)) none)
     ∙ length-take-le size readings (omega (arith, long, mul-le-mul_right size some))
 
--- what is put in the middle of a buffer
+-- text that is written into the middle of a buffer
 in_middle : (old packs : List ℕ) (start size : ℕ) → start ≤ size
     → take start old ++ (packs ++ drop (size - start) (drop start old))
     ≡ take start old ++ packs ++ drop size old

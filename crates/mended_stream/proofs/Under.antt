@@ -1,4 +1,4 @@
--- The text of the words under a block.
+-- The text of the words that have symbols in a block.
 use Rattle.std.proofs.Common.{◌≡◌, ◌≢◌, ℕ, ◌+◌, ◌-◌, ◌*◌, ◌/◌, ◌%◌, ◌<◌, ◌≤◌, List, get_or, take, drop, ap, ◌∙◌, arith}
 use Rattle.std.specs.Prelude.{Some}
 use Rattle.std.proofs.lemmas.List.{get_or-drop, get_or-take}
@@ -7,7 +7,7 @@ use Rattle.mended_stream.specs.Symbols.{AreMendedUnder, held_symbol}
 use Rattle.mended_stream.specs.declared.words.Words.{Words}
 use Rattle.mended_stream.proofs.Standing.{symbol_there}
 
--- a symbol of a block under which each word was mended
+-- a symbol of a block whose words were all mended
 pub symbol_under : (words : Words) (text : List ℕ) (b first k at_row : ℕ) → AreMendedUnder words b
     → first ≡ 4 * (b - words.lead_in) - 7 → k < 96
     → at_row ≡ 24 * (7 + k / 24 - k % 24 % 8) + swapped (k % 24)
@@ -29,13 +29,13 @@ symbol_under words text b first k at_row are at lt row =
     omega (arith, ap swapped position, row) in
     symbol_there words text p n there within found ∙ ap (λ i. Some (get_or text i 0 % 64)) which
 
--- a symbol of the row of their text
+-- a symbol of the part of their text
 pub row_symbol : (text : List ℕ) (first count j : ℕ) → j < count
     → get_or (take count (drop (24 * first) text)) j 0 ≡ get_or text (24 * first + j) 0
 row_symbol text first count j lt =
     get_or-take count (drop (24 * first) text) j 0 lt ∙ get_or-drop (24 * first) text j 0
 
--- the words that are found in a row are those under the block
+-- if all words in a part were mended, so were all words of the block
 pub under : (words : Words) (b first : ℕ) (sources : List ℕ) → 4 * words.lead_in + 7 ≤ 4 * b
     → first ≡ 4 * b - (4 * words.lead_in + 7) → first + 11 ≤ words.count
     → sources ≡ take 11 (drop first words.sources.now)

@@ -1,4 +1,4 @@
--- Blocks written over text that is still to be read.
+-- Blocks that overwrite text which is still needed.
 use Rattle.std.proofs.Common.{◌≡◌, ℕ, ◌+◌, ◌-◌, ◌*◌, ◌/◌, ◌%◌, ◌<◌, ◌≤◌, List, ◌++◌, length, get_or, take, drop, sym, ap, ◌∙◌, subst, inl, inr, arith, below_more, length-append}
 use Rattle.std.specs.Prelude.{Some}
 use Rattle.std.proofs.lemmas.Bool.{cases_eq, cases_lt}
@@ -13,7 +13,7 @@ use Rattle.mended_stream.specs.declared.words.Words.{Words}
 use Rattle.mended_stream.proofs.Standing.{none_before, none_there, symbol_there}
 use Rattle.mended_stream.proofs.StreamBlocks.{block_same, block_with}
 
--- lists that are the same from a place on have the same elements there
+-- lists that agree from a place have the same elements there
 pub same_behind : (now old : List ℕ) (m q : ℕ) → drop m now ≡ drop m old → m ≤ q
     → get_or now q 0 ≡ get_or old q 0
 same_behind now old m q same from =
@@ -24,7 +24,7 @@ same_behind now old m q same from =
     ∙ get_or-drop m old (q - m) 0
     ∙ ap (λ k. get_or old k 0) there
 
--- the text of a word lies behind the blocks that are written before the last of its symbols
+-- the text of a word is behind the blocks that are written before the block of its last symbol
 text_behind : (words : Words) (size start p b n i : ℕ) → start ≡ size - 24 * words.count
     → (0 < words.count → 24 * words.count + 96 * words.lead_in + 24 * 7 ≤ size) → n < words.count
     → 96 * b ≤ p → p / 24 ≡ 4 * words.lead_in + p % 24 % 8 + n → 96 * b ≤ start + (24 * n + i)
@@ -35,7 +35,7 @@ text_behind words size start p b n i at late within from slot =
     let delay : p % 24 % 8 ≤ 7 = omega arith in
     omega (arith, at, room, first, delay, slot)
 
--- so the symbol of word n is the same in the text as it is and as it was
+-- so the symbol of word n is still in the text
 same_word : (words : Words) (now old : List ℕ) (size start p b n : ℕ) → start ≡ size - 24 * words.count
     → (0 < words.count → 24 * words.count + 96 * words.lead_in + 24 * 7 ≤ size)
     → drop (96 * b) now ≡ drop (96 * b) old → 96 * b ≤ p → p / 24 ≡ 4 * words.lead_in + p % 24 % 8 + n
@@ -119,7 +119,7 @@ put_there list block new m k is fits size lt =
     ∙ get_or-append_right (take m list) block m (m + k) 0 front (omega arith)
     ∙ ap (λ j. get_or block j 0) (omega arith)
 
--- one block more
+-- one more block
 pub blocks_more : (words : Words) (text list block new : List ℕ) (readings : List (List ℕ)) (b : ℕ)
     → new ≡ take (96 * b) list ++ block ++ drop (96 * b + 96) list → 96 * b + 96 ≤ length list
     → length new ≡ length list → length block ≡ 96 → AreBlocks words text readings b list
@@ -138,7 +138,7 @@ blocks_more words text list block new readings b is inside size long before here
     (block_with new block b (omega (arith, inside, size)) long (λ k small.
     put_there list block new (96 * b) k is fits long small))) here)
 
--- what is behind the block stays
+-- the bytes behind the block are unchanged
 pub kept_behind : (list block new old : List ℕ) (b : ℕ)
     → new ≡ take (96 * b) list ++ block ++ drop (96 * b + 96) list → 96 * b ≤ length list → length block ≡ 96
     → drop (96 * b) list ≡ drop (96 * b) old → drop (96 * (b + 1)) new ≡ drop (96 * (b + 1)) old
@@ -153,6 +153,6 @@ kept_behind list block new old b is fits size same =
     ∙ drop-drop 96 (96 * b) old
     ∙ ap (λ n. drop n old) next
 
--- the text that a block is made of
+-- the text from which the block is made
 pub text_is : (list : List ℕ) (start : ℕ) → take (length list - start) (drop start list) ≡ drop start list
 text_is list start = take_rest list start

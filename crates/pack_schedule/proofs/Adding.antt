@@ -1,4 +1,4 @@
--- The instructions of all places of the window are no more than the tile instructions.
+-- The places of the window have together no more instructions than there are tile instructions.
 use Rattle.std.proofs.Common.{◌≡◌, ℕ, zero, suc, ◌+◌, ◌/◌, ◌%◌, ◌≤◌, ◌==◌, Bool, true, false, cond, List, [], ◌∷◌, length, map, refl, sym, ap, ◌∙◌, subst, arith, All}
 use Rattle.std.specs.Prelude.{sum_by}
 use Rattle.std.specs.List.{range_with_len}
@@ -11,7 +11,7 @@ use Rattle.pack_schedule.proofs.Places.{place_of, places_in_order}
 use Rattle.pack_schedule.proofs.TileTests.{by_test, and_both, eq_of}
 use Rattle.pack_schedule.proofs.Own.{is_here, own}
 
--- the tile instructions since all memory was set last
+-- the number of tile instructions since the memory was last cleared
 abbrev pub tiles_in : List Instr → ℕ
 tiles_in [] = 0
 tiles_in (MemoryPreset colour repeat ∷ before) = 0
@@ -53,7 +53,7 @@ one_more test rest instr (x ∷ xs) =
       one_more test rest instr xs,
     )
 
--- how many of some places are this one
+-- how many of these places are the place (r, c)
 abbrev pub matches : ℕ → ℕ → List (ℕ × ℕ) → ℕ
 matches r c places = sum_by (λ (p : ℕ × ℕ). cond (is_here p.0 p.1 r c) 1 0) places
 
@@ -79,7 +79,7 @@ owned_few places (XorTile colour0 colour1 r c lines ∷ before) few =
     )
 owned_few places (_ ∷ before) few = owned_few places before few
 
--- ---- no two places of the window are one
+-- ---- all places of the window are different
 
 abbrev one_if : Bool → ℕ
 one_if t = cond t 1 0

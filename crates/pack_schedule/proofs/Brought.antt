@@ -1,4 +1,4 @@
--- Every change in order for a picture brings it.
+-- Every valid change for a picture draws it.
 use Rattle.std.proofs.Common.{◌≡◌, ℕ, zero, suc, ◌+◌, ◌-◌, ◌*◌, ◌/◌, ◌%◌, ◌<◌, ◌==◌, All, Bool, true, false, cond, List, [], ◌∷◌, ◌++◌, refl, sym, ap, ap₂, ◌∙◌, subst, arith, Some, None}
 use Rattle.std.specs.Prelude.{count_by, sum_by}
 use Rattle.std.specs.declared.option.Option.{Option}
@@ -100,7 +100,7 @@ none_change script k start instrs change =
     (none_changes (tiles_before script k start) (picture_tile script k) window_places change.tiles
     change.tile_changes))
 
--- ---- the first change sets all there is
+-- ---- the first change sets everything
 
 count_parts : (test : Instr → Bool) (a b c instrs : List Instr) → instrs ≡ a ++ b ++ c
     → count_by test instrs ≡ count_by test a + count_by test b + count_by test c
@@ -134,7 +134,7 @@ sets_if_first script (suc k) start instrs change first = absurd (omega (arith, f
 
 -- ---- after the change its picture is shown
 
--- the tile of a pixel of the window, and its number in that tile
+-- the tile of a pixel of the window, and the number of the pixel in that tile
 abbrev tile_number : ℕ → ℕ → ℕ
 tile_number x y = 48 * (y / 12) + x / 6
 

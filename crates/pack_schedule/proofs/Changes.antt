@@ -1,4 +1,4 @@
--- What stands after the change of a picture.
+-- The standing after the change of a picture.
 use Rattle.std.proofs.Common.{◌≡◌, ℕ, zero, suc, ◌-◌, ◌<◌, List, ◌++◌, get_or, refl, sym, ap, ◌∙◌, subst, arith, Some, None}
 use Rattle.std.specs.declared.option.Option.{Option}
 use Rattle.std.proofs.lemmas.List.{get_or-replicate}
@@ -11,7 +11,7 @@ use Rattle.pack_schedule.specs.Change.{settings, preset_of, tiles_before, IsStar
 use Rattle.pack_schedule.proofs.Tiles.{InTurn, HoldsAt, Changed, place_row, place_column, tile_x, tile_y, window_changes}
 use Rattle.pack_schedule.proofs.Set.{IsSet, first_settings, later_settings}
 
--- picture k stands in memory and on the screen
+-- picture k is in the memory and on the screen
 pub record Stands (script : List Drawing) (k : ℕ) (s : Standing) : Type 0 where
   pub tiles : (i : ℕ) → i < 768 → HoldsAt s (picture_tile script k) i
   pub border : s.border ≡ picture_border script k
@@ -19,7 +19,7 @@ pub record Stands (script : List Drawing) (k : ℕ) (s : Standing) : Type 0 wher
   pub h : s.h ≡ 0
   pub v : s.v ≡ 0
 
--- what stands before a change: no offsets, and the picture before
+-- the standing before a change: no offsets, and the previous picture
 abbrev pub IsReady : List Drawing → ℕ → Standing → Type 0
 IsReady script zero s = (s.h ≡ 0) × (s.v ≡ 0)
 IsReady script (suc k) s = Stands script k s
@@ -28,7 +28,7 @@ ready_offsets : (script : List Drawing) (k : ℕ) (s : Standing) → IsReady scr
 ready_offsets script zero s ready = ready
 ready_offsets script (suc k) s ready = (ready.h, ready.v)
 
--- a memory that is set first leaves the rest
+-- `s'` is `s` after the instruction that clears the memory, if the change begins with one
 record Presets (script : List Drawing) (k : ℕ) (start : Option ℕ) (s s' : Standing) : Type 0 where
   tiles : (i : ℕ) → i < 768 → HoldsAt s' (tiles_before script k start) i
   border : s'.border ≡ s.border
@@ -71,7 +71,7 @@ settled in_turn script zero s0 s ready border colours = first_settings in_turn s
 settled in_turn script (suc k) s0 s ready border colours =
     later_settings in_turn script k s (border ∙ ready.border) (λ n lt. colours n lt ∙ ready.colours n lt)
 
--- after a change its picture stands
+-- a change draws its picture
 pub change_stands : InTurn
     → (script : List Drawing) (k : ℕ) (start : Option ℕ) (instrs : List Instr) (s : Standing)
     → IsChangeFrom script k start instrs → IsReady script k s

@@ -1,4 +1,4 @@
--- The choice of a start.
+-- The choice of the instruction that a change begins with.
 use Rattle.std.proofs.Common.{◌≡◌, ℕ, zero, suc, ◌+◌, ◌<◌, ◌≤◌, Bool, true, false, List, [], ◌∷◌, ◌++◌, map, length, refl, ap, sym, ◌∙◌, arith}
 use Rattle.std.specs.Prelude.{Option, Some, None, if◌then◌else◌, nat_lt}
 use Rattle.std.proofs.lemmas.Bool.Decides.{nat_tests}
@@ -8,7 +8,7 @@ use Rattle.picture_script.specs.Script.{Drawing}
 use Rattle.pack_schedule.specs.Change.{settings}
 use Rattle.pack_schedule.specs.PlannedChange.{planned_length, tile_steps, preferred, first_least, chosen_start}
 
--- one more at the end
+-- one more element at the end
 least-snoc : {X : Type 0} (number : X → ℕ) (best : X) (xs : List X) (x : X)
     → first_least number best (xs ++ x ∷ [])
     ≡ (if nat_lt (number x) (number (first_least number best xs)) then x else first_least number best xs)
@@ -20,7 +20,7 @@ least-snoc number best (y ∷ xs) x =
 one_sum : (n : ℕ) → 0 + n ≡ n
 one_sum n = omega arith
 
--- one colour more
+-- one more colour
 one_more : (f : Option ℕ → ℕ) (best old : Option ℕ) (c : ℕ) → old ≡ first_least f best (map Some (below c))
     → first_least f best (map Some (below (c + 1))) ≡ (if nat_lt (f (Some c)) (f old) then Some c else old)
 one_more f best old c is =

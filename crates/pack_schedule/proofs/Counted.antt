@@ -1,4 +1,4 @@
--- How many instructions a list has at least.
+-- The least number of instructions in a list.
 use Rattle.std.proofs.Common.{◌≡◌, ℕ, zero, suc, ◌+◌, ◌<◌, ◌≤◌, Bool, cond, List, [], ◌∷◌, length, refl, ap, ◌∙◌, arith}
 use Rattle.std.specs.Prelude.{reverse, count_by, sum_by}
 use Rattle.std.specs.List.{AllByRecursion}
@@ -11,7 +11,7 @@ use Rattle.pack_schedule.specs.Brings.{IsStill, sets_memory, sets_border, sets_l
 use Rattle.pack_schedule.proofs.Own.{preset_in}
 use Rattle.pack_schedule.proofs.Adding.{tiles_in}
 
--- a count does not look at the order
+-- a count does not depend on the order
 pub count-reverse : {X : Type 0} (test : X → Bool) (xs : List X)
     → count_by test (reverse xs) ≡ count_by test xs
 count-reverse test [] = refl
@@ -24,7 +24,7 @@ pub counted : (test : Instr → Bool) (instr : Instr) (before : List Instr)
     → count_by test (instr ∷ before) ≡ cond (test instr) 1 0 + count_by test before
 counted test instr before = sum_by-cons (λ i. cond (test i) 1 0) instr before
 
--- the tiles since all memory was set last, that preset, and those that set the border and the colours
+-- the tile instructions since the memory was last cleared, this clearing, and the settings of border and colours
 pub total : (before : List Instr)
     → tiles_in before + length (preset_of (preset_in before))
     + (count_by sets_border before + count_by sets_low before + count_by sets_high before)
@@ -47,7 +47,7 @@ total (instr ∷ before) =
       counted sets_high instr before,
     )
 
--- the preset is one that a change may begin with
+-- a change may begin with this preset
 pub start_allowed : (k : ℕ) (before : List Instr) → AllByRecursion IsStill before
     → (k ≡ 0 → 0 < count_by sets_memory before)
     → IsStart k (preset_in before)

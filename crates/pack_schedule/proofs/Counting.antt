@@ -1,4 +1,4 @@
--- Sums over tiles, from each start at once.
+-- Sums over tiles, for all starts at once.
 use Rattle.std.proofs.Common.{◌≡◌, ◌≢◌, ℕ, ◌+◌, ◌-◌, ◌*◌, ◌/◌, ◌%◌, ◌<◌, ◌≤◌, List, [], ◌∷◌, length, map, get_or, set, take, drop, replicate, Bool, true, false, zero, suc, refl, ap, sym, subst, ◌∙◌, inl, inr, arith, below_more}
 use Rattle.std.specs.Prelude.{Option, Some, None, MatchOption, slice_index, sum_by}
 use Rattle.std.specs.Bool.{then_some}
@@ -71,7 +71,7 @@ all_same pixels first size all =
     same_number_lists pixels (replicate 72 first) (size ∙ sym (length-replicate {A = ℕ} 72 first))
     (λ q lt. all q (omega arith) ∙ sym (get_or-replicate {A = ℕ} 72 q first 0 (omega arith)))
 
--- where each pixel is as the one before it, all are as the first
+-- if each pixel equals the one before it, all pixels equal the first
 as_before : (pixels : List ℕ) (r : Bool) → length pixels ≡ 72
     → r ≡ bytes_eq (take (72 - 1) (drop 1 pixels)) (take (71 - 0) (drop 0 pixels)) → r ≡ true → (q : ℕ)
     → q < 72
@@ -87,7 +87,7 @@ as_before pixels r size e holds (suc q) q_lt =
     ∙ get_or-take (71 - 0) (drop 0 pixels) q 0 (omega arith)
     ∙ as_before pixels r size e holds q (omega arith)
 
--- the single colour of a tile, told by that comparison
+-- the comparison shows whether a tile has a single colour
 pub single_told : (tile pixels : List ℕ) (told : Bool) → IsTilePixels pixels → pixels ≡ tile
     → told ≡ bytes_eq (take (72 - 1) (drop 1 pixels)) (take (71 - 0) (drop 0 pixels))
     → MatchOption (then_some told (get_or pixels 0 0)) ((c : ℕ) → tile ≢ replicate 72 c)
@@ -105,7 +105,7 @@ single_told tile pixels false is same tells = λ c at.
 first_of : (c : ℕ) (pixels : List ℕ) (i : ℕ) → i < 72 → pixels ≡ replicate 72 c → get_or pixels i 0 ≡ c
 first_of c pixels i lt h = ap (λ xs. get_or xs i 0) h ∙ get_or-replicate {A = ℕ} 72 i c 0 lt
 
--- what is kept of a tile
+-- the stored weight of a tile is right
 pub weighed : PlansAreShortest → (tile : List ℕ) (w : ℕ) (single : Option ℕ) → IsTilePixels tile
     → MatchOption single ((c : ℕ) → tile ≢ replicate 72 c) (λ c. (c < 16) × (tile ≡ replicate 72 c)) → w ≤ 4
     → ((row column d : ℕ) → row < 32 → column < 64 → d < 16 → tile ≢ replicate 72 d
@@ -135,7 +135,7 @@ weighed plans tile w (Some c0) is h few least none = record {
       colour_steps plans tile c w c_lt is (least 1 1 c (omega arith) (omega arith) c_lt apart);
 }
 
--- a tile of one colour is counted
+-- one more tile of a single colour is counted
 pub single_step : (tile single : List ℕ) (kept : Weighed) (c0 c whole : ℕ) → length single ≡ 16 → c0 < 16
     → c < 16 → IsWeighed tile kept → kept.single ≡ Some c0
     → whole + kept.weight + slice_index single c
@@ -158,7 +158,7 @@ single_step tile single kept c0 c whole size c0_lt c_lt h is = elim (cases_eq c 
       omega (arith, steps_are, at)
 ]
 
--- another tile
+-- one more tile of several colours is counted
 pub mixed_step : (tile single : List ℕ) (kept : Weighed) (c whole : ℕ) → c < 16 → IsWeighed tile kept
     → kept.single ≡ None
     → whole + kept.weight + slice_index single c ≡ whole + slice_index single c + steps (replicate 72 c) tile
@@ -166,7 +166,7 @@ mixed_step tile single kept c whole c_lt h is =
     let steps_are = h.from_other c c_lt (λ own. let both : None ≡ Some c = sym is ∙ own in absurd (cc)) in
     omega (arith, steps_are)
 
--- so many tiles have been counted
+-- the first i tiles have been counted
 pub record Counted (stands whole : ℕ) (single : List ℕ) (script : List Drawing) (k i : ℕ) : Type 0 where
   pub stands_are : 0 < k → stands ≡ steps_so_far script k None i
   pub colours_are : (c : ℕ) → c < 16 → whole ≡ slice_index single c + steps_so_far script k (Some c) i
@@ -202,7 +202,7 @@ one_counted script k i stands whole taken stands' whole' single single' h t s w 
   few_single = λ c. omega (arith, h.few_single c, o_few c);
 }
 
--- what is kept of the tiles, of which so many are those of the next picture
+-- the first i stored weights are those of picture k, the others those of the previous picture
 pub record AreKept (script : List Drawing) (k i : ℕ) (weights : List Weighed) : Type 0 where
   pub new : (m : ℕ) → m < i → IsWeighedAt script k m weights
   pub old : (m : ℕ) → i ≤ m → m < 768 → 0 < k → IsWeighedAt script (k - 1) m weights

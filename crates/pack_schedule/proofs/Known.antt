@@ -1,4 +1,4 @@
--- The instructions of a change are in range, and are none that is not written.
+-- The instructions of a change are in range, and each can be written.
 use Rattle.std.proofs.Common.{◌≡◌, ◌≢◌, ℕ, ◌+◌, ◌<◌, List, length, map, sym, subst, arith, lit<, All}
 use Rattle.std.specs.declared.option.Option.{Option}
 use Rattle.std.proofs.lemmas.List.Elements.{All-from_get_or}

@@ -1,4 +1,4 @@
--- The tiles of one place since all memory was set last. Lists of instructions have the last one first.
+-- The tiles of one place since the memory was last cleared. Lists of instructions have the last one first.
 use Rattle.std.proofs.Common.{◌≡◌, ℕ, ◌/◌, ◌%◌, ◌≤◌, ◌==◌, ◌&&◌, Bool, true, false, cond, List, [], ◌∷◌, length, get_or, replicate, sym, ap, ap₂, ◌∙◌, subst, arith, bit_xor, Some, None}
 use Rattle.std.specs.declared.option.Option.{Option}
 use Rattle.std.specs.List.{AllByRecursion}
@@ -26,18 +26,18 @@ own row column (XorTile colour0 colour1 r c lines ∷ before) =
     cond (is_here row column r c) (XorTile colour0 colour1 r c lines ∷ rest) rest
 own row column (_ ∷ before) = own row column before
 
--- the colour that all memory was set to last
+-- the colour of the last instruction that cleared the memory
 abbrev pub preset_in : List Instr → Option ℕ
 preset_in [] = None
 preset_in (MemoryPreset colour repeat ∷ before) = Some colour
 preset_in (_ ∷ before) = preset_in before
 
--- the tile that stood then
+-- the tile after that instruction
 abbrev pub tile_since : Option ℕ → List ℕ → List ℕ
 tile_since (Some colour) old = replicate 72 colour
 tile_since None old = old
 
--- the instructions of a place make its tile
+-- the instructions of a place draw its tile
 pub own_tile : (start : ℕ → ℕ → ℕ) (row column : ℕ) (old : List ℕ) (before : List Instr) → row ≤ 17
     → column ≤ 49 → AllByRecursion IsStill before → HoldsTile start row column old
     → HoldsTile (memory_from start before) row column
@@ -100,7 +100,7 @@ own_tile start row column old (ScrollCopy a b h d v ∷ before) r c all holds p 
 own_tile start row column old (_ ∷ before) r c all holds p lt =
     own_tile start row column old before r c all.1 holds p lt
 
--- they are of this place
+-- the instructions of a place concern only this place
 pub own_placed : (row column : ℕ) (before : List Instr) → AllByRecursion IsStill before
     → AllByRecursion (IsOfPlace row column) (own row column before)
 own_placed row column [] all = tt
@@ -129,7 +129,7 @@ own_placed row column (ScrollPreset a b h d v ∷ before) all = absurd all.0
 own_placed row column (ScrollCopy a b h d v ∷ before) all = absurd all.0
 own_placed row column (_ ∷ before) all = own_placed row column before all.1
 
--- a tile keeps its size
+-- a tile keeps its length
 pub length-tile_from : (row column : ℕ) (old : List ℕ) (before : List Instr)
     → AllByRecursion (IsOfPlace row column) before → length old ≡ 72
     → length (tile_from old before) ≡ 72

@@ -1,4 +1,4 @@
--- What holds of each instruction of a change, from what holds of each of its parts.
+-- Facts about each instruction of a change, from facts about its parts.
 use Rattle.std.proofs.Common.{ℕ, zero, suc, ◌<◌, ◌==◌, Bool, true, false, cond, List, [], ◌∷◌, ◌++◌, sym, subst, All, Some, None}
 use Rattle.std.specs.declared.option.Option.{Option}
 use Rattle.std.specs.List.{AllByRecursion}

@@ -1,4 +1,4 @@
--- What the rows of a plan tell of a script.
+-- The rows of a plan and the pictures of a script.
 use Rattle.std.proofs.Common.{◌≡◌, ℕ, ◌+◌, ◌-◌, ◌<◌, false, List, get_or, subst, arith}
 use Rattle.picture_script.specs.Script.{Drawing, pictures}
 use Rattle.picture_script.specs.Board.{Board, IsPicture}
@@ -28,7 +28,7 @@ first_is_late script rows k are lt first = record {
       row_is_ready script j (get_or rows j no_row) (are.each j (omega (arith, j_lt, lt))) (first.1 j j_lt);
 }
 
--- once picture k is drawn on both canvases, the next one comes
+-- when picture k is drawn on both canvases, the next picture follows
 pub before_next : (script : List Drawing) (k : ℕ) (before now : Board) (weights : List Weighed)
     → k < pictures script → before.at ≡ Some k → IsPicture script k before → now.at ≡ Some k
     → IsPicture script k now

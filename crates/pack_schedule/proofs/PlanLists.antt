@@ -19,7 +19,7 @@ use Rattle.pack_schedule.specs.PlannedChange.{planned_tiles, planned_from}
 use Rattle.pack_schedule.proofs.Places.{place_of, places_in_order, colour_is_tile, start_small}
 use Rattle.pack_schedule.proofs.SettingLaws.{eight_Decides, same_eight}
 
--- Tiles in turn.
+-- The tiles one after another.
 
 unfoldable pub plans_so_far : List Drawing → ℕ → Option ℕ → ℕ → List Instr
 plans_so_far script k start i =
@@ -116,7 +116,7 @@ later_list script (suc k) old s_border s_low s_high border low high pos tb tl th
     ∙ ap (λ xs. old ++ xs)
     (sym (append_assoc a d e) ∙ ap₂ (λ x y. x ++ y) (ap₂ (λ x y. x ++ y) one two) three)
 
--- the colours of a canvas are those of its picture
+-- a canvas has the colours of its picture
 low_are : (script : List Drawing) (k : ℕ) (board : Board) → IsPicture script k board
     → map (λ n. slice_index board.colours (0 + n)) (below 8) ≡ low_colours script k
 unfolding low_colours
@@ -132,7 +132,7 @@ high_are script k board h =
     same_eight (λ n. slice_index board.colours (8 + n)) (λ n. picture_colour script k (8 + n))
     (λ n lt. h.colours_are (8 + n) (omega arith))
 
--- a setting is appended to the first picture, and where it differs to a later one
+-- the setting is appended for the first picture, and for a later one if it differs
 abbrev pub IsAppended : ℕ → Type 0 → Instr → List Instr → List Instr → Type 0
 IsAppended k Same instr old new =
     ((new ≡ old ++ instr ∷ []) × (0 < k → ¬ Same)) ⊎ ((new ≡ old) × (0 < k) × Same)
@@ -149,7 +149,7 @@ later_appended k false instr old new pos tests (inl told) = told.0
 later_appended k true instr old new pos tests (inr told) = told.0 ∙ sym (append-nil old)
 later_appended k false instr old new pos tests (inr told) = absurd (false≢true (tests.1 told.2))
 
--- what a comparison of colours tells
+-- the result of a comparison of colours
 pub told_other : (told : Bool) (xs ys zs : List ℕ) → told ≡ not (bytes_eq xs ys) → xs ≡ zs → told ≡ true
     → ¬ (zs ≡ ys)
 told_other told xs ys zs is at is_true same =
@@ -164,7 +164,7 @@ pub told_same : (told : Bool) (xs ys zs : List ℕ) → told ≡ not (bytes_eq x
 told_same told xs ys zs is at is_false =
     sym at ∙ (bytes_eq-Decides xs ys).0 (not_false (bytes_eq xs ys) (sym is ∙ is_false))
 
--- the settings in turn
+-- the settings one after another
 pub all_appended : (script : List Drawing) (k : ℕ) (old new : Board) (border : ℕ) (low high : List ℕ)
     (none one two three : List Instr)
     → (0 < k → IsPicture script (k - 1) old) → IsPicture script k new → border ≡ new.border

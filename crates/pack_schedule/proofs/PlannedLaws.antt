@@ -1,4 +1,4 @@
--- The length of each change, and that the planned one is a change.
+-- The length of each change; and the planned change is a change.
 use Rattle.std.proofs.Common.{◌≡◌, ℕ, zero, suc, ◌+◌, ◌-◌, ◌<◌, ◌≤◌, Bool, true, false, List, [], ◌∷◌, ◌++◌, length, map, get_or, All, refl, ap, ap₂, sym, subst, ◌∙◌, arith, length-append}
 use Rattle.std.specs.Prelude.{Option, Some, None, sum_by, flat_map, if◌then◌else◌, nat_lt}
 use Rattle.std.proofs.lemmas.List.Elements.{All-head, All-tail, All-map, All-from_get_or, All-get_or}
@@ -18,7 +18,7 @@ use Rattle.pack_schedule.proofs.Places.{AreInside, inside, picture_is_tile, colo
 one_sum : (n : ℕ) → 0 + n ≡ n
 one_sum n = omega arith
 
--- what is known of plans
+-- the facts about plans of tiles
 pub record PlansAreShortest : Type 0 where
   pub turns : (row column : ℕ) (old new : List ℕ) → row < 18 → column < 50 → IsTilePixels old
       → IsTilePixels new
@@ -30,7 +30,7 @@ pub record PlansAreShortest : Type 0 where
       → IsTilePixels new
       → IsLeast row column old new (steps old new)
 
--- two least numbers are one
+-- the least number is unique
 pub least-unique : (row column : ℕ) (old new : List ℕ) (m n : ℕ) → IsLeast row column old new m
     → IsLeast row column old new n
     → m ≡ n
@@ -39,7 +39,7 @@ least-unique row column old new m n one other =
     let second = other.needed one.enough.0 one.enough.1 in
     omega (arith, first, second, one.enough.2, other.enough.2)
 
--- changes of tiles are as many as the steps of all tiles
+-- the number of instructions that change tiles is the sum of the steps of all tiles
 changes_count : PlansAreShortest → (old new : ℕ → ℕ → List ℕ) (places : List (ℕ × ℕ)) (instrs : List Instr)
     → AreInside places
     → ((row column : ℕ) → IsTilePixels (old row column)) → ((row column : ℕ) → IsTilePixels (new row column))
@@ -89,7 +89,7 @@ before_is_tile : (script : List Drawing) (k : ℕ) (start : Option ℕ) (row col
 before_is_tile script k (Some colour) row column small allowed = colour_is_tile colour allowed
 before_is_tile script k None row column small allowed = picture_is_tile script (k - 1) row column small
 
--- each change with a start has the planned length
+-- each change has the planned length of its start
 pub change_length : PlansAreShortest
     → (script : List Drawing) (k : ℕ) (start : Option ℕ) (instrs : List Instr)
     → ((k x y : ℕ) → picture_pixel script k x y < 16)
@@ -103,7 +103,7 @@ change_length plans script k start instrs small h =
     ap length h.whole ∙ length-append (preset_of start ++ settings script k) h.tiles
     ∙ ap₂ (λ a b. a + b) (length-append (preset_of start) (settings script k)) tiles
 
--- the planned change is one
+-- the planned change is a change
 pub planned_is_change : PlansAreShortest → (script : List Drawing) (k : ℕ) (start : Option ℕ)
     → ((k x y : ℕ) → picture_pixel script k x y < 16) → IsStart k start
     → IsChangeFrom script k start (planned_from script k start)
@@ -119,7 +119,7 @@ planned_is_change plans script k start small allowed = record {
       (λ row column. picture_is_tile script k row column small);
 }
 
--- the chosen start is one, and no other has a shorter change
+-- the chosen start is allowed, and no other start has a shorter change
 preferred_is_start : (k : ℕ) → IsStart k (preferred k)
 preferred_is_start zero = omega arith
 preferred_is_start (suc k) = tt

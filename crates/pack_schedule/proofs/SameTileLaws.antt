@@ -1,4 +1,4 @@
--- Tiles that are the same before and after.
+-- Tiles that are equal before and after a change.
 use Rattle.std.proofs.Common.{◌≡◌, ◌≢◌, ℕ, zero, suc, ◌+◌, ◌-◌, ◌*◌, ◌/◌, ◌%◌, ◌<◌, ◌≤◌, Bool, true, false, List, [], ◌∷◌, map, length, get_or, replicate, refl, ap, ap₂, sym, subst, ◌∙◌, arith, below_more, bit_xor}
 use Rattle.std.specs.Prelude.{Option, Some, None, not, slice_index, slice_set, nat_lt, if◌then◌else◌}
 use Rattle.std.specs.Option.{is_some}
@@ -35,7 +35,7 @@ all_rows old new r end all row first last column from to =
     let back : row - 1 + 1 ≡ row = omega arith in
     subst (λ n. tile_of old n column ≡ tile_of new n column) back (all (row - 1) (omega arith) column from to)
 
--- nothing is needed for a tile that stands
+-- a tile that is already there needs no instruction
 equal_self : (t : List ℕ) → are_equal t t ≡ true
 unfolding are_equal delta
 equal_self t =
@@ -49,7 +49,7 @@ pub plan_self : (row column : ℕ) (old new : List ℕ) → old ≡ new → plan
 unfolding plan
 plan_self row column old new same = ap (plan row column old) (sym same) ∙ rw (equal_self old) refl
 
--- the tile of a picture that stands on a canvas
+-- a tile of the picture on a canvas
 pub tile_picture : (script : List Drawing) (k row column : ℕ) (board : Board) → 1 ≤ row → row ≤ 16
     → 1 ≤ column → column ≤ 48 → IsPicture script k board
     → tile_of board.pixels row column ≡ picture_tile script k row column
@@ -66,7 +66,7 @@ same_picture_tile script k row column before now row_ge row_le column_ge column_
     ∙ same
     ∙ tile_picture script k row column now row_ge row_le column_ge column_le is
 
--- a tile of weight 1 takes one instruction from one that it differs from
+-- a different tile of weight 1 needs one instruction
 abbrev LightTilesTakeOne : Type 0
 LightTilesTakeOne = (old new : List ℕ) → length old ≡ tile_pixels → length new ≡ tile_pixels → weight new ≡ 1
     → old ≢ new
@@ -85,7 +85,7 @@ light_tile take_one script k row column before now row_ge row_le column_ge colum
     ∙ ap₂ steps (tile_picture script (k - 1) row column before row_ge row_le column_ge column_le was)
     (tile_picture script k row column now row_ge row_le column_ge column_le is)
 
--- a row of tiles that is the same in picture k and in the picture before
+-- a row of tiles that is equal in picture k and in the previous picture
 pub row_kept : (script : List Drawing) (k r : ℕ) (before now : Board) → r < 16
     → IsPicture script (k - 1) before → IsPicture script k now
     → ((x y : ℕ) → y / 12 ≡ r → picture_pixel script (k - 1) x y ≡ picture_pixel script k x y)
@@ -102,7 +102,7 @@ row_kept script k r before now lt was is kept column from to =
     ∙ sym (is.pixels_are x y (omega arith) (omega arith)))
     is ∙ sym (tile_picture script k (r + 1) column now (omega arith) (omega (arith, lt)) from to is)
 
--- pictures between which no row was drawn on
+-- if no row was drawn on between two pictures, they are equal
 pub undrawn_same : (script : List Drawing) (k : ℕ) (before now : Board) (drawn : List Bool)
     → length drawn ≡ 16
     → IsPicture script (k - 1) before → IsPicture script k now → KeepsRows script k drawn
@@ -112,7 +112,7 @@ undrawn_same script k before now drawn size was is keeps undrawn =
     (λ m lt. row_kept script k m before now lt was is
     (keeps m (get_or_default drawn m true false (omega (arith, lt, size)) ∙ undrawn m lt)).1)
 
--- what is told of one row more
+-- the comparison of one more row
 pub row_told : (old new : List ℕ) (rows : List Bool) (columns : List (List Bool)) (r : ℕ) (whole : Bool)
     (marks : List Bool) → r < length rows → r < length columns
     → ((m : ℕ) → m < r → IsRowTold old new (m + 1) (get_or rows m false) (get_or columns m []))
@@ -132,7 +132,7 @@ row_told old new rows columns r whole marks in_rows in_columns before here =
     subst (λ w. IsRowTold old new (r + 1) w (get_or (slice_set columns r marks) r [])) (sym row)
     (subst (IsRowTold old new (r + 1) whole) (sym mark) here))
 
--- the marks of the first rows; the later ones are not compared yet
+-- the marks of the first r rows are right; the later rows are not compared yet
 abbrev pub AreToldSoFar : List ℕ → List ℕ → ℕ → ToldTiles → Type 0
 AreToldSoFar old new r told = (length told.rows ≡ 16) × (length told.columns ≡ 16)
     × ((m : ℕ) → r ≤ m → m < 16 → get_or told.rows m false ≡ true)
@@ -170,7 +170,7 @@ all_told old new told all h tests holds =
     λ m lt. ap (λ marks. get_or marks m false) rows ∙ get_or-replicate {A = Bool} 16 m true false lt in
     all_rows old new 16 (omega arith) (λ m lt. (h m lt).0 (row m lt))
 
--- a picture whose tiles all stand
+-- if all tiles are equal, no tile needs an instruction
 same_so_far : (script : List Drawing) (k : ℕ) (before now : Board) → IsPicture script (k - 1) before
     → IsPicture script k now → SameTiles before.pixels now.pixels
     → (i : ℕ) → i ≤ 768 → steps_so_far script k None i ≡ 0
@@ -193,7 +193,7 @@ pub same_steps : (script : List Drawing) (k : ℕ) (before now : Board) → IsPi
 same_steps script k before now was is same =
     sym (all_tiles script k None 768 refl) ∙ same_so_far script k before now was is same 768 (omega arith)
 
--- one that no other is less than is the first of the least
+-- if no other number is less than the first, it is the least
 least_stays : (f : Option ℕ → ℕ) (best : Option ℕ) (xs : List ℕ) → ((x : ℕ) → f best ≤ f (Some x))
     → first_least f best (map Some xs) ≡ best
 unfolding first_least
@@ -223,7 +223,7 @@ pub same_length : (script : List Drawing) (k beside : ℕ) → beside ≡ length
 unfolding planned_length
 same_length script k beside is none = omega (arith, is, none)
 
--- a later picture may begin with what stands
+-- only a later picture may begin without clearing the memory
 pub later_start : (k : ℕ) (start : Option ℕ) → IsStart k start → start ≡ None → 0 < k
 later_start zero None h is = absurd h
 later_start zero (Some colour) h is = absurd (cc)
@@ -233,7 +233,7 @@ pub before_none : (script : List Drawing) (k row column : ℕ) (start : Option �
     → tiles_before script k start row column ≡ picture_tile script (k - 1) row column
 before_none script k row column start is = ap (λ s. tiles_before script k s row column) is
 
--- a light tile is drawn by one instruction, whatever other tile stands there
+-- one instruction draws a tile of weight 1 over any other tile
 pub drawn_alone : (script : List Drawing) (k row column : ℕ) (start : Option ℕ) (before : Board)
     (new : List ℕ) (instr : Instr) → 1 ≤ row → row ≤ 16 → 1 ≤ column → column ≤ 48 → start ≡ None
     → IsPicture script (k - 1) before → tile_of before.pixels row column ≢ new
@@ -252,7 +252,7 @@ start_none None none told h = refl
 start_none (Some colour) true told h = absurd (cc)
 start_none (Some colour) false told h = absurd (cc)
 
--- what is kept of a picture is that of the next one where their tiles are the same
+-- if the tiles of two pictures are equal, so are their weights
 pub same_weights : (script : List Drawing) (k : ℕ) (before now : Board) (weights : List Weighed)
     → IsPicture script (k - 1) before → IsPicture script k now → SameTiles before.pixels now.pixels
     → AreWeights script (k - 1) weights → AreWeights script k weights

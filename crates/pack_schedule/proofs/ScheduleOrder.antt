@@ -1,4 +1,4 @@
--- What stands while the packs of a schedule come.
+-- The standing while the packs of a schedule are played.
 use Rattle.std.proofs.Common.{◌≡◌, ℕ, zero, suc, ◌+◌, ◌-◌, ◌<◌, ◌≤◌, inl, inr, List, [], ◌∷◌, length, nat_le, ◌&&◌, true, get_or, take, drop, refl, sym, ap, ◌∙◌, subst, arith, length-append, length-drop}
 use Rattle.std.specs.Prelude.{reverse}
 use Rattle.std.specs.List.{AllByRecursion}
@@ -22,7 +22,7 @@ use Rattle.pack_schedule.proofs.TimeOrder.{hold_order}
 use Rattle.pack_schedule.specs.Meanings.{AreMeantBy}
 use Rattle.pack_schedule.proofs.Tiles.{InTurn, and_four, each_reverse, is_le}
 
--- the laws of the instructions
+-- the laws about instructions
 abbrev pub OneMeaning : Type 0
 OneMeaning = (word : List ℕ) (one other : Instr) → Means word one → Means word other → one ≡ other
 
@@ -31,9 +31,9 @@ ReadAsWritten = (instr read : Instr) (word : List ℕ) → InRange instr → IsK
     → Means word read
     → read ≡ instr
 
--- ---- what a change leaves
+-- ---- the standing after a change
 
--- an instruction that is written is one of those with a code
+-- an instruction that is written has a code
 none_short : (word : List ℕ) → IsCodeword word → message_of word ≡ [] → ⊥
 none_short word code none =
     omega (
@@ -65,7 +65,7 @@ before_unmoved : (script : List Drawing) (k : ℕ) (now : Standing) → IsBefore
 before_unmoved script zero now is = is
 before_unmoved script (suc k) now is = is.1
 
--- after a change its picture stands, unmoved
+-- after a change its picture is there, without offsets
 changed : (script : List Drawing) (k : ℕ) (now : Standing) (instrs : List Instr) → IsChange script k instrs
     → IsBefore script k now
     → IsBefore script (suc k) (standing_after now instrs)
@@ -86,7 +86,7 @@ in_window x y xs ys =
 
 -- ---- packs by their numbers
 
--- instruction n is what pack n means
+-- instruction n is the meaning of pack n
 pub record MeansEach (packs : List (List ℕ)) (instrs : List Instr) : Type 0 where
   pub count : length instrs ≡ length packs
   pub each : (n : ℕ) → n < length packs → Means (get_or packs n []) (get_or instrs n Idle)
@@ -106,7 +106,7 @@ means_each (pack ∷ packs) (instr ∷ instrs) meant =
     let rest = means_each packs instrs meant.1 in
     record { count = omega (arith, rest.count); each = means_cons pack packs instr instrs meant.0 rest.each }
 
--- ---- times in order
+-- ---- times in increasing order
 
 start_order : (script : List Drawing) → AreTimesInOrder script → (i j : ℕ) → i ≤ j → j < pictures script
     → start_of script i ≤ start_of script j
@@ -115,7 +115,7 @@ start_order script order (suc i) zero le lt = absurd (omega (arith, le))
 start_order script order (suc i) (suc j) le lt =
     omega (arith, hold_order script order i j (omega (arith, le)) (omega (arith, lt)))
 
--- ---- the packs of a schedule as they come
+-- ---- the packs of a schedule, as they are played
 
 module _ (in_turn : InTurn) (one_meaning : OneMeaning) (read_back : ReadAsWritten) (script : List Drawing)
     (blocks : ℕ) (packs : List (List ℕ)) (order : AreTimesInOrder script)
@@ -128,7 +128,7 @@ module _ (in_turn : InTurn) (one_meaning : OneMeaning) (read_back : ReadAsWritte
   abbrev change_of : ℕ → List Instr
   change_of k = get_or schedule.changes k []
 
-  -- what stands after the first m packs
+  -- the standing after the first m packs
   abbrev after : ℕ → Standing
   after m = standing_after blank (take m instrs)
 
@@ -179,12 +179,12 @@ module _ (in_turn : InTurn) (one_meaning : OneMeaning) (read_back : ReadAsWritte
       written
       (meant_at (start_of script k + j) (omega (arith, fits, small))))
 
-  -- the change of a picture comes before its time to be held ends
+  -- the change of a picture ends before the hold time of the picture
   in_hold : (k : ℕ) → k < pictures script
       → start_of script k + length (change_of k) ≤ whole_packs (hold_time script k)
   in_hold k picture = omega (arith, schedule.fits k picture, order.held k picture)
 
-  -- later changes have not begun before the end of this picture's time, and earlier ones are over
+  -- before the hold time of picture k, no later change has begun, and every earlier one is complete
   not_begun : (k j n : ℕ) → k < pictures script → j < pictures script → suc k ≤ j
       → n < whole_packs (hold_time script k)
       → n < start_of script j

@@ -16,7 +16,7 @@ use Rattle.pack_schedule.specs.declared.surveys.PlannedChange.{PlannedChange}
 the_same : (n : ℕ) → 0 + n ≡ n
 the_same n = omega arith
 
--- they are a schedule of each kind of which the planned changes are
+-- if the planned changes have a property, the packs are a schedule of changes with this property
 pub is_schedule : (IsOne : List Drawing → ℕ → List Instr → Type 0) (script : List Drawing) (blocks : ℕ)
     (survey : List PlannedChange) (packs : List (List ℕ))
     → ((k : ℕ) → IsOne script k (planned_change script k))

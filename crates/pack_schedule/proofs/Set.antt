@@ -1,4 +1,4 @@
--- What stands after the instructions that set the border and the colours.
+-- The standing after the instructions that set the border and the colours.
 use Rattle.std.proofs.Common.{◌≡◌, ℕ, zero, suc, ◌+◌, ◌-◌, ◌<◌, ◌≤◌, ◌==◌, nat_lt, ◌&&◌, inl, inr, Bool, true, false, cond, List, [], ◌∷◌, ◌++◌, get_or, map, refl, sym, ap, ◌∙◌, subst, arith, bit_xor}
 use Rattle.std.specs.List.{list_all, range_with_len}
 use Rattle.std.specs.Int.Bits.{xor_zero_l, xor_zero_r, xor_assoc, xor_self}
@@ -50,7 +50,7 @@ equal_at old new e p lt =
 
 -- ---- one instruction, or none
 
--- the memory and the offsets stay
+-- the memory and the offsets are unchanged
 pub record KeepsPlace (s s' : Standing) : Type 0 where
   pub memory : (x y : ℕ) → x < 300 → y < 216 → pixel_at s'.memory x y ≡ pixel_at s.memory x y
   pub h : s'.h ≡ s.h

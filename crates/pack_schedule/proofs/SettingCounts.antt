@@ -1,4 +1,4 @@
--- What a list has to set of the border and the colours, so that a picture stands after it.
+-- The settings of border and colours that a list must contain to draw a picture.
 use Rattle.std.proofs.Common.{◌≡◌, ℕ, zero, suc, ◌+◌, ◌-◌, ◌<◌, ◌≤◌, ◌==◌, ◌&&◌, Bool, true, false, cond, List, [], ◌∷◌, ◌++◌, length, get_or, map, refl, sym, ap, ap₂, ◌∙◌, arith, length-append, bit_xor}
 use Rattle.std.specs.Prelude.{reverse, count_by}
 use Rattle.std.specs.List.{list_all, range_with_len}
@@ -19,7 +19,7 @@ use Rattle.pack_schedule.specs.Brings.{IsBefore, Brings, sets_border, sets_low, 
 use Rattle.pack_schedule.proofs.TileTests.{is_eq, is_low, is_high}
 use Rattle.pack_schedule.proofs.Counted.{count-reverse, counted}
 
--- ---- what no instruction sets stays
+-- ---- values that no instruction sets are unchanged
 
 border_kept : (start : ℕ) (before : List Instr) → count_by sets_border before ≡ 0
     → border_from start before ≡ start

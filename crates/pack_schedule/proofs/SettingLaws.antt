@@ -1,4 +1,4 @@
--- How many settings differ.
+-- The number of settings that differ.
 use Rattle.std.proofs.Common.{◌≡◌, ℕ, zero, suc, ◌+◌, ◌-◌, ◌<◌, ◌≤◌, Bool, true, false, List, [], ◌∷◌, ◌++◌, length, map, refl, ap, ap₂, sym, subst, ◌∙◌, inl, inr, arith, bit_xor}
 use Rattle.std.specs.Prelude.{◌==◌, ◌&&◌, if◌then◌else◌, not, slice_index}
 use Rattle.std.specs.Bool.{Decides}
@@ -55,7 +55,7 @@ pub zero_all : (f : ℕ → ℕ) (n a : ℕ) → ((k : ℕ) → f k ≡ 0)
 zero_all f zero a all = refl
 zero_all f (suc n) a all = ap₂ (λ x y. x && y) (ap (λ d. d == 0) (all a)) (zero_all f n (a + 1) all)
 
--- two lists of eight colours are equal where their elements are
+-- two lists of eight colours are equal if their elements are equal
 pub equal_colours : (one other : ℕ → ℕ) → ((n : ℕ) → n < 8 → one n ≡ other n)
     → are_equal (map one (range_with_len 0 8)) (map other (range_with_len 0 8)) ≡ true
 unfolding are_equal delta
@@ -77,7 +77,7 @@ equal_colours one other all =
           (omega (arith, length-map-range_with_len other 0 8))
     ])
 
--- and else they are not
+-- and only then
 pub unequal_colours : (one other : ℕ → ℕ)
     → are_equal (map one (range_with_len 0 8)) (map other (range_with_len 0 8)) ≡ true → (n : ℕ) → n < 8
     → one n ≡ other n
@@ -154,7 +154,7 @@ later_settings script k b low high e l h =
     ∙ three b low high (BorderPreset (picture_border script (suc k)))
     (ColoursLow (low_colours script (suc k))) (ColoursHigh (high_colours script (suc k)))
 
--- the settings are counted by comparisons
+-- comparisons count the settings
 pub settings_differ : (script : List Drawing) (k : ℕ) (old new : Board) (xs ys us vs : List ℕ) → 0 < k
     → IsPicture script (k - 1) old → IsPicture script k new
     → xs ≡ map (λ n. slice_index old.colours (0 + n)) (below 8)

@@ -96,7 +96,7 @@ module _ (plans : PlansAreShortest) (script : List Drawing) (k : ℕ)
       let first = unmoved_before k is in
       (ap (λ (o : ℕ × ℕ). o.0) kept ∙ first.0, ap (λ (o : ℕ × ℕ). o.1) kept ∙ first.1)
 
-  -- a place with the tile that stood since all memory was set last
+  -- a place, with its tile since the memory was last cleared
   at_place : (i : ℕ) (old base : List ℕ) → i < 768
       → HoldsTile (pixel_at now.memory) (place_row i) (place_column i) old
       → tile_since (preset_in (reverse instrs)) old ≡ base → IsTilePixels base

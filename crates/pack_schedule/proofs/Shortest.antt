@@ -1,4 +1,4 @@
--- No list that brings a picture is shorter than its change.
+-- No list that draws a picture is shorter than its change.
 use Rattle.std.proofs.Common.{◌≡◌, ℕ, zero, suc, ◌+◌, ◌-◌, ◌*◌, ◌<◌, ◌≤◌, Bool, cond, List, [], ◌∷◌, length, refl, inl, inr, ap, ap₂, sym, ◌∙◌, subst, arith}
 use Rattle.std.proofs.lemmas.Bool.{cases_lt}
 use Rattle.std.specs.Prelude.{count_by, reverse}
@@ -22,7 +22,7 @@ use Rattle.pack_schedule.proofs.Counted.{count-reverse, total, start_allowed}
 use Rattle.pack_schedule.proofs.SettingCounts.{settings_needed}
 use Rattle.pack_schedule.proofs.SettingPlaces.{still, tiles_needed}
 
--- what is known of changes with a start, and of the change that is written
+-- the facts about changes with a start, and about the planned change
 pub record ChangesAreKnown : Type 0 where
   pub planned : (script : List Drawing) (k : ℕ) (start : Option ℕ)
       → ((k x y : ℕ) → picture_pixel script k x y < 16) → IsStart k start
@@ -42,7 +42,7 @@ module _ (plans : PlansAreShortest) (script : List Drawing) (k : ℕ)
       start_allowed k (reverse instrs) (still plans script k small now instrs is brings)
       (λ first. omega (arith, (brings.sets first).memory, count-reverse sets_memory instrs))
 
-  -- it is as long as the planned change with the same start
+  -- the list is at least as long as the planned change with the same start
   as_long : planned_length script k start ≤ length instrs
   unfolding planned_length
   as_long =
@@ -62,7 +62,7 @@ module _ (plans : PlansAreShortest) (script : List Drawing) (k : ℕ)
       let two = known.length script k start (planned_from script k start) small planned in
       omega (arith, one, two, as_long)
 
--- ---- one need
+-- ---- a picture needs only one number of packs
 
 -- a screen that shows a picture
 standing : List Drawing → ℕ → Standing
@@ -94,12 +94,12 @@ stands script k = (
   (refl, refl),
 )
 
--- something may stand before each picture
+-- some standing is allowed before each picture
 may_stand : (script : List Drawing) (k : ℕ) → (now : Standing) × IsBefore script k now
 may_stand script zero = (blank, (refl, refl))
 may_stand script (suc k) = (standing script k, stands script k)
 
--- two changes for a picture are of one length
+-- two changes for a picture have the same length
 pub one_need : (script : List Drawing) (k need other : ℕ) → IsNeed script k need → IsNeed script k other
     → need ≡ other
 one_need script k need other (instrs, change, count) (instrs', change', count') =
@@ -112,7 +112,7 @@ one_need script k need other (instrs, change, count) (instrs', change', count') 
       change'.shortest now instrs before (change.brings now before),
     )
 
--- more than the packs that are free are needed for a picture that is late
+-- a late picture needs more packs than are free
 free_few : (start ready need : ℕ) → (start + need + packs_kept_back ≤ slots_a_block * ready → ⊥)
     → start + packs_kept_back ≤ slots_a_block * ready → whole_packs ready - start < need
 free_few start ready need late room =
@@ -128,7 +128,7 @@ first_few ready need late some = elim (cases_lt (slots_a_block * ready) (0 + nee
   | inr in_time ↦ absurd (late in_time)
 ]
 
--- the first picture needs some, since its change sets all there is
+-- the first picture needs packs, because its change sets everything
 some_set : (test : Instr → Bool) (instrs : List Instr) → 0 < count_by test instrs → 0 < length instrs
 some_set test [] some = absurd (omega (arith, some))
 some_set test (instr ∷ instrs) some = omega arith

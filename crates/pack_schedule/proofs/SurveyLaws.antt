@@ -1,4 +1,4 @@
--- Which picture stands on a canvas while a script is surveyed, and what a survey tells of the pictures.
+-- The picture on a canvas during a survey, and what a survey says about the pictures.
 use Rattle.std.proofs.Common.{◌≡◌, ℕ, zero, suc, ◌+◌, ◌-◌, ◌*◌, ◌<◌, ◌≤◌, true, false, List, [], ◌∷◌, ◌++◌, length, get_or, refl, ap, sym, subst, ◌∙◌, inl, inr, arith, length-append}
 use Rattle.std.specs.Prelude.{Option, Some, None, MatchOption, nat_le, Result, Ok, Err, IfOk, IfErr}
 use Rattle.std.proofs.lemmas.Bool.{cases_lt}
@@ -18,7 +18,7 @@ use Rattle.pack_schedule.specs.declared.stops.Stop.{Stop}
 use Rattle.pack_schedule.specs.declared.stops.Stop.TheVariants.{Late}
 use Rattle.pack_schedule.proofs.TimeOrder.{hold_order}
 
--- picture k stands before the next one is drawn
+-- picture k is on the canvas before the next one is drawn
 pub stands_next : (script : List Drawing) (k : ℕ) (board : Board) → board.at ≡ Some k
     → IsPicture script k board
     → Stands script (k + 1) board
@@ -31,7 +31,7 @@ stands_next script k board at h =
       drawn = λ lt. subst (λ n. IsPicture script n board) here h;
     }
 
--- picture k stands there
+-- picture k is on the canvas
 pub stands_now : (script : List Drawing) (k : ℕ) (board : Board) → Stands script (k + 1) board
     → IsPicture script k board × (board.at ≡ Some k)
 stands_now script k board h =
@@ -50,7 +50,7 @@ stands_first script board blank at = record {
   drawn = λ lt. absurd (omega (arith, lt));
 }
 
--- from where picture k can be drawn
+-- the canvas is ready for picture k
 pub stands_before : (script : List Drawing) (k : ℕ) (board : Board) → Stands script k board
     → StandsBefore script k board
 stands_before script zero board h =
@@ -60,7 +60,7 @@ stands_before script (suc k) board h =
     subst (λ (at : Option ℕ). MatchOption at (IsBlank board) (λ j. (j ≤ suc k) × IsPicture script j board))
     (sym (h.at_some (omega arith))) (omega arith, h.drawn (omega arith))
 
--- a picture that stands there
+-- a canvas with an earlier picture is ready
 pub stands_at : (script : List Drawing) (k most : ℕ) (board : Board) → board.at ≡ Some k
     → IsPicture script k board → k ≤ most
     → StandsBefore script most board
@@ -68,7 +68,7 @@ stands_at script k most board at h le =
     subst (λ (at : Option ℕ). MatchOption at (IsBlank board) (λ j. (j ≤ most) × IsPicture script j board))
     (sym at) (le, h)
 
--- or none
+-- and so is a blank canvas
 pub stands_blank : (script : List Drawing) (most : ℕ) (board : Board) → IsBlank board → board.at ≡ None
     → StandsBefore script most board
 stands_blank script most board blank at =
@@ -81,7 +81,7 @@ later_at : (at : Option ℕ) (Blank : Type 0) (There : ℕ → Type 0) (few most
 later_at None Blank There few most le h = h
 later_at (Some j) Blank There few most le h = (omega (arith, h.0, le), h.1)
 
--- it stands there for later pictures too
+-- and it is ready for later pictures too
 pub stands_later : (script : List Drawing) (few most : ℕ) (board : Board) → few ≤ most
     → StandsBefore script few board
     → StandsBefore script most board
@@ -145,7 +145,7 @@ is_late known script k need free planned ranges small lt are need_is' free_is' l
       (need, is, row.in_time);
 }
 
--- each planned number is what its picture needs
+-- each planned number is the number of packs that its picture needs
 all_fewest : NeedsAreFewest → (script : List Drawing) (planned : List PlannedChange)
     → AreColoursInRange script → ((k x y : ℕ) → picture_pixel script k x y < 16) → IsSurvey script planned
     → (k : ℕ) → k < pictures script → IsNeed script k (get_or planned k nothing_planned).need
@@ -158,7 +158,7 @@ late_told : NeedsAreFewest → (script : List Drawing) (blocks : ℕ) (stop : St
 late_told needs script blocks stop order ranges small is picture need free late =
     needs.late script picture need free order ranges small (subst (IsStop script blocks) late is).1
 
--- ---- of the answer
+-- ---- about the answer
 
 pub fewest_of : NeedsAreFewest → (script : List Drawing) → AreColoursInRange script
     → ((k x y : ℕ) → picture_pixel script k x y < 16) → (result : Result (List PlannedChange) Stop)
@@ -178,7 +178,7 @@ late_of needs script blocks order ranges small (Err stop) is picture need free l
     let same : stop ≡ Late picture need free = cc in
     late_told needs script blocks stop order ranges small is picture need free same
 
--- where the last picture is not held past the end, none is
+-- if the last picture is not held beyond the end, no picture is
 pub is_within : (script : List Drawing) (blocks : ℕ) → AreTimesInOrder script → ¬ IsPastEnd script blocks
     → IsWithin script blocks
 is_within script blocks order end k lt = elim (cases_lt blocks (hold_time script (pictures script - 1))) [
@@ -202,7 +202,7 @@ in_time script k start need is test = elim (leb_tells (start + need + 7) (4 * re
 abbrev pub late_picture : ℕ → ℕ → ℕ → LatePicture
 late_picture k need free = record { picture = k; need = need; free = free }
 
--- what is told of a change that is not in time
+-- the report of a change that is not in time
 pub late_at : (script : List Drawing) (k start need free : ℕ) → start ≡ start_of script k
     → need ≡ length (planned_change script k) → free ≡ free_packs script k
     → nat_le (start + need + 7) (4 * ready_time script k) ≡ false

@@ -1,4 +1,4 @@
--- What tests tell: of equal numbers, of halves of the table of colours, and of the pixels of a tile.
+-- The results of tests: of equal numbers, of halves of the table of colours, and of the pixels of a tile.
 use Rattle.std.proofs.Common.{◌≡◌, ℕ, suc, ◌+◌, ◌/◌, ◌<◌, ◌≤◌, ◌==◌, nat_le, nat_lt, ◌&&◌, inl, inr, Bool, true, false, refl, ap₂, arith}
 use Rattle.std.proofs.lemmas.Bool.Decides.{eqb_tells, leb_tells}
 use Rattle.cdg_screen.specs.Standing.{covers}

@@ -1,4 +1,4 @@
--- What stands after tile instructions.
+-- The standing after tile instructions.
 use Rattle.std.proofs.Common.{◌≡◌, ℕ, zero, suc, ◌+◌, ◌*◌, ◌/◌, ◌%◌, ◌<◌, ◌≤◌, ◌==◌, nat_le, ◌&&◌, inl, inr, Bool, true, false, cond, List, [], ◌∷◌, ◌++◌, get_or, map, refl, sym, ap, ap₂, ◌∙◌, subst, arith, bit_xor}
 use Rattle.std.specs.Prelude.{reverse}
 use Rattle.std.specs.List.{AllByRecursion, range_with_len}
@@ -43,7 +43,7 @@ is_eq a b e = elim (eqb_tells a b) [ inl same ↦ same.0 | inr other ↦ absurd 
 pub is_le : (a b : ℕ) → a ≤ b → nat_le a b ≡ true
 is_le a b le = elim (leb_tells a b) [ inl tells ↦ tells.0 | inr tells ↦ absurd (omega (arith, le, tells.1)) ]
 
--- ---- each element of a list turned round
+-- ---- each element of a reversed list
 
 each_append : {X : Type 0} (P : X → Type 0) (xs ys : List X) → AllByRecursion P xs → AllByRecursion P ys
     → AllByRecursion P (xs ++ ys)
@@ -59,14 +59,14 @@ each_reverse P (x ∷ xs) all =
 
 -- ---- one tile
 
--- where pixel p of the tile of a row and column stands
+-- the coordinates of pixel p of the tile at a row and a column
 abbrev pub tile_x : ℕ → ℕ → ℕ
 tile_x column p = 6 * column + p % 6
 
 abbrev pub tile_y : ℕ → ℕ → ℕ
 tile_y row p = 12 * row + p / 6
 
--- the memory holds these pixels of a tile
+-- the memory contains these pixels of a tile
 abbrev pub HoldsTile : (ℕ → ℕ → ℕ) → ℕ → ℕ → List ℕ → Type 0
 HoldsTile memory row column tile =
     (p : ℕ) → p < 72 → memory (tile_x column p) (tile_y row p) ≡ get_or tile p 0
@@ -88,7 +88,7 @@ covers_only row column row' column' p lt apart =
     absurd (apart (omega (arith, eq_of (tile_y row' p / 12) row tests.1, lt))
     (omega (arith, eq_of (tile_x column' p / 6) column tests.0)))) (λ no. no)
 
--- the instructions are given the last one first
+-- the list has the last instruction first
 tile_memory : (start : ℕ → ℕ → ℕ) (row column : ℕ) (old : List ℕ) (before : List Instr) → row ≤ 17
     → column ≤ 49 → AllByRecursion (IsOfPlace row column) before → HoldsTile start row column old
     → HoldsTile (memory_from start before) row column (tile_from old before)
@@ -138,7 +138,7 @@ other_memory start row column (XorTile colour0 colour1 row' column' lines ∷ be
     ∙ other_memory start row column before x y all.1 other
 other_memory start row column (_ ∷ before) x y all other = absurd all.0
 
--- nothing but the memory changed
+-- only the memory changed
 pub record KeepsSettings (s s' : Standing) : Type 0 where
   pub border : s'.border ≡ s.border
   pub colour : (n : ℕ) → n < 16 → slice_index s'.colours n ≡ slice_index s.colours n
@@ -232,12 +232,12 @@ abbrev pub HoldsAt : Standing → (ℕ → ℕ → List ℕ) → ℕ → Type 0
 HoldsAt s tiles k =
     HoldsTile (pixel_at s.memory) (place_row k) (place_column k) (tiles (place_row k) (place_column k))
 
--- instructions may be taken in turn
+-- instructions may be executed in two parts
 abbrev pub InTurn : Type 0
 InTurn = (start : Standing) (early late : List Instr)
     → standing_after start (early ++ late) ≡ standing_after (standing_after start early) late
 
--- the tiles of the places from a on, n in number, became new ones, and nothing else changed
+-- n tiles from place a became new ones, and nothing else changed
 pub record Changed (a n : ℕ) (new : ℕ → ℕ → List ℕ) (s s' : Standing) : Type 0 where
   pub inside : (k : ℕ) → a ≤ k → k < a + n → HoldsAt s' new k
   pub outside : (k p : ℕ) → k < 768 → p < 72 → (a ≤ k → k < a + n → ⊥)

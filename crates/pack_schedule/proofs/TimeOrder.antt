@@ -1,4 +1,4 @@
--- The times of pictures rise.
+-- The times of pictures increase.
 use Rattle.std.proofs.Common.{◌≡◌, ℕ, zero, suc, ◌+◌, ◌<◌, ◌≤◌, List, ap, subst, inl, inr, arith}
 use Rattle.std.proofs.lemmas.Bool.Decides.{leb_tells}
 use Rattle.picture_script.specs.Script.{Drawing, pictures, ready_time, hold_time}

@@ -1,4 +1,4 @@
--- What a weaver keeps, from the change of one picture to that of the next, and the packs that it gives.
+-- The state of a weaver, from the change of one picture to the next, and its packs.
 use Rattle.std.proofs.Common.{◌≡◌, ◌≢◌, ℕ, suc, ◌+◌, ◌-◌, ◌*◌, ◌<◌, ◌≤◌, List, [], length, get_or, All, ap, refl, sym, subst, ◌∙◌, inl, inr, arith}
 use Rattle.std.specs.Prelude.{Option, replicate, slice_index}
 use Rattle.std.proofs.lemmas.Bool.{cases_lt}
@@ -19,7 +19,7 @@ use Rattle.pack_schedule.specs.declared.weaver.ChangeAtHand.{ChangeAtHand}
 use Rattle.pack_schedule.specs.declared.surveys.PlannedChange.{PlannedChange}
 use Rattle.pack_schedule.proofs.TimeOrder.{hold_order}
 
--- what a survey says of a picture
+-- the chosen start of each picture is allowed
 abbrev pub ChosenIsStart : Type 0
 ChosenIsStart = (script : List Drawing) (k : ℕ) → IsStart k (chosen_start script k)
 
@@ -39,7 +39,7 @@ unfolding planned_change
 change_planned script survey k preset change h lt is made =
     made ∙ ap (planned_from script k) (is ∙ (h.each k lt).preset_is)
 
--- the change of the first picture is at hand, if there is one
+-- the current change is the change of the first picture, if there is one
 pub first_weaves : (script : List Drawing) (at_hand : ChangeAtHand) → IsSurvey script at_hand.survey
     → at_hand.k ≡ 0 → StandsBefore script 0 at_hand.before → StandsBefore script 0 at_hand.now
     → (0 < pictures script → (at_hand.change ≡ planned_change script 0) × (at_hand.start ≡ start_of script 0))
@@ -61,7 +61,7 @@ first_weaves script at_hand surveyed k before now planned last =
       sent = λ j lt. absurd (omega (arith, k, lt));
     }
 
--- the change of the next picture is at hand, if there is one
+-- the current change is the change of the next picture, if there is one
 pub next_weaves : (script : List Drawing) (old new : ChangeAtHand) (given : ℕ) → IsWeaving script old given
     → old.k < pictures script → start_of script old.k + length (planned_change script old.k) ≤ given
     → new.survey ≡ old.survey → new.k ≡ old.k + 1 → StandsBefore script (old.k + 1) new.before
@@ -104,7 +104,7 @@ starts_apart script survey h held later k n lt =
     let start : start_of script (k + suc n) ≡ 4 * hold_time script (k + n) - 7 = ap (start_of script) next in
     omega (arith, in_time, planned.need_is, rise, start, held k (omega arith))
 
--- no change from the one at hand on begins before it
+-- neither the current change nor a later one begins before the start of the current one
 pub begins_first : (script : List Drawing) (at_hand : ChangeAtHand) (given : ℕ)
     → IsWeaving script at_hand given
     → ((k : ℕ) → k < pictures script → ready_time script k ≤ hold_time script k)
@@ -145,7 +145,7 @@ only_here script at_hand given h held later current j lt from to = elim (cases_l
   ]
 ]
 
--- a pack of the change at hand
+-- a pack of the current change
 pub change_pack : (script : List Drawing) (at_hand : ChangeAtHand) (given : ℕ) (pack : List ℕ)
     → IsWeaving script at_hand given
     → ((k : ℕ) → k < pictures script → ready_time script k ≤ hold_time script k)
@@ -183,7 +183,7 @@ no_pack script at_hand given pack h held later current early idle = record {
   idle = λ all. idle;
 }
 
--- each instruction of the change at hand can be written
+-- an instruction that can be written
 abbrev pub IsFine : Instr → Type 0
 IsFine instr = InRange instr × IsKnown instr
 
@@ -199,7 +199,7 @@ pub busy_at : (script : List Drawing) (change : List Instr) (k i : ℕ)
 busy_at script change k i busy is lt =
     All-get_or (λ instr. instr ≢ Idle) change i Idle lt (subst (All (λ instr. instr ≢ Idle)) (sym is) busy)
 
--- what is written for an instruction that is not idle is no idle pack: its first symbol is not 0
+-- the symbols that are written for an instruction other than idle do not begin with 0, so they are no idle pack
 first_symbol : (instr : Instr) → instr ≢ Idle → slice_index (written_symbols instr) 0 ≡ 0
     → written_symbols instr ≡ []
 first_symbol Idle busy zero = absurd (busy refl)
@@ -227,7 +227,7 @@ not_idle instr pack busy written idle =
     let short : 18 ≡ 0 = ap length (sym symbols ∙ none) in
     absurd (omega (arith, short))
 
--- the place of a pack in the change at hand
+-- the place of a pack in the current change
 pub place_at_hand : (script : List Drawing) (at_hand : ChangeAtHand) (given : ℕ)
     → IsWeaving script at_hand given → at_hand.k < pictures script
     → (at_hand.k < pictures script

@@ -1,4 +1,4 @@
--- What has been read of a script after one more line.
+-- The part of a script that was read, after one more line.
 use Rattle.std.proofs.Common.{◌≡◌, ℕ, ◌+◌, ◌-◌, ◌<◌, List, [], ◌∷◌, ◌++◌, length, get_or, refl, ap, ap₂, sym, subst, ◌∙◌, arith}
 use Rattle.std.specs.Prelude.{Option, Some, None, IfSome, Result, Ok, Err, OnOk, IfOk, IfErr}
 use Rattle.std.proofs.lemmas.List.{length-append}
@@ -58,13 +58,13 @@ one_counted before ready hold old draft counted =
       held = λ some. sym (ap last_hold more ∙ hold_pushed (shows before) ready hold);
     }
 
--- nothing is kept
+-- without a draft, nothing is kept
 pub none_kept : (script : List Drawing) (draft : Option ScriptDraft) → draft ≡ None
     → IfSome draft (λ kept. IsSound kept × (said_in kept ≡ script))
 none_kept script draft none =
     subst (λ o. IfSome o (λ kept. IsSound kept × (said_in kept ≡ script))) (sym none) tt
 
--- one more line is kept, if it was
+-- one more line is kept, if the earlier lines were
 pub more_kept : {E : Type 0} (kept : Result (Unit {0}) E) (before : List Drawing) (line added : Drawing)
     (draft : Option ScriptDraft) (old new : ScriptDraft) → draft ≡ Some old
     → IfSome draft (λ kept. IsSound kept × (said_in kept ≡ before)) → added ≡ line
@@ -75,7 +75,7 @@ more_kept (Ok u) before line added draft old new is had same adds =
     (adds.sound, adds.lines_are ∙ ap₂ (λ b l. b ++ l ∷ []) was.1 same)
 more_kept (Err e) before line added draft old new is had same adds = tt
 
--- what is made of all lines
+-- the script that is made of all lines
 pub made : {E : Type 0} (result : Result (List Drawing) E) (read : Result (List Drawing) (ℕ × ScriptWhy))
     (script : List Drawing) → read ≡ Ok script → IfOk result (λ made. made ≡ script)
     → IfOk result (λ made. read ≡ Ok made)

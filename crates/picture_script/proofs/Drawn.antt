@@ -1,4 +1,4 @@
--- What stands on a canvas once the first lines of a script are drawn.
+-- The canvas after the first lines of a script were drawn.
 use Rattle.std.proofs.Common.{◌≡◌, ℕ, ◌+◌, ◌-◌, ◌*◌, ◌/◌, ◌%◌, ◌<◌, ◌≤◌, true, List, [], ◌∷◌, ◌++◌, length, take, map, get_or, All, ap, sym, subst, ◌∙◌, arith}
 use Rattle.std.specs.Prelude.{Option, Some, None, MatchOption}
 use Rattle.std.proofs.lemmas.Grind.{same_number_lists}
@@ -50,7 +50,7 @@ pub before-most : (script : List Drawing) (k : ℕ) → length (lines_before scr
 before-most script k =
     omega (arith, ap length (before_prefix script k) ∙ length-take (length (lines_before script k)) script)
 
--- one line more
+-- one more line
 pub next_said : (pixels : List ℕ) (lines : List ScriptLine) (script : List Drawing) (i : ℕ)
     (line : ScriptLine) → all_said pixels lines ≡ script → i < length lines → line ≡ get_or lines i line
     → drawn (drawn_by (take i script)) (said pixels line) ≡ drawn_by (take (i + 1) script)
@@ -82,7 +82,7 @@ pub next_line : (pixels : List ℕ) (lines : List ScriptLine) (script : List Dra
 next_line pixels lines script i line board view i_lt read h =
     subst (λ p. IsDrawn p board) (next_said pixels lines script i line view i_lt read) h
 
--- the same of what lines set
+-- the same for the colours that lines set
 pub next_set : (pixels : List ℕ) (lines : List ScriptLine) (script : List Drawing) (i : ℕ) (line : ScriptLine)
     (board : Board) → all_said pixels lines ≡ script → i < length lines → line ≡ get_or lines i line
     → IsSet (drawn (drawn_by (take i script)) (said pixels line)) board
@@ -93,7 +93,7 @@ next_set pixels lines script i line board view i_lt read h =
 pub set_before : (picture : Picture) (board : Board) → IsDrawn picture board → IsSet picture board
 set_before picture board h = record { border_is = h.border_is; colours_are = h.colours_are }
 
--- a line that fills the window leaves nothing of what was drawn before it
+-- a line that fills the window hides all earlier drawing
 pub filled-drawn : (script : List Drawing) (place colour border : ℕ) (pixels colours : List ℕ) (at : Option ℕ)
     (old : Board) → place < length script → get_or script place (Fill 0) ≡ Fill colour
     → ArePixelsOf pixels (λ x y. colour) → IsSet (drawn_by (take place script)) old → old.border ≡ border
@@ -114,7 +114,7 @@ filled-drawn script place colour border pixels colours at old lt is filled h bor
     subst (λ p. IsDrawn p (record { pixels = pixels; border = border; colours = colours; at = at }))
     (sym lines) all
 
--- what a line says stands in the script
+-- the line is in the script with this meaning
 pub fill_there : (pixels : List ℕ) (lines : List ScriptLine) (script : List Drawing) (i colour : ℕ)
     (line : ScriptLine) → all_said pixels lines ≡ script → i < length lines → line ≡ get_or lines i line
     → line ≡ Filled colour
@@ -185,7 +185,7 @@ picture_tile_is script k row column board tile row_ge row_le column_ge column_le
     ∙ h.pixels_are (6 * (column - 1) + q % 6) (12 * (row - 1) + q / 6) (omega arith) (omega arith)
     ∙ sym (get_or-map-range_with_len f 0 72 q q 0 (omega arith) (omega arith)))
 
--- a picture that stands there has no more lines before it
+-- a picture on the canvas has no more lines before it than a later one
 pub not_after : (script : List Drawing) (k drawn : ℕ) (board : Board) → board.at ≡ Some drawn
     → StandsBefore script k board
     → length (lines_before script drawn) ≤ length (lines_before script k)

@@ -1,4 +1,4 @@
--- Hexadecimal digits: those of colours and of rows of pixels.
+-- Hexadecimal digits of colours and of rows of pixels.
 use Rattle.std.proofs.Common.{◌≡◌, ℕ, ◌+◌, ◌*◌, ◌<◌, Bool, true, false, ◌&&◌, if◌then◌else◌, List, [], ◌∷◌, ◌++◌, length, map, take, get_or, slice_index, Some, None, refl, sym, ap, ◌∙◌, ◌==◌, rules, tests}
 use Rattle.std.specs.List.{list_all}
 use Rattle.std.specs.Char.{is_ascii_hexdigit, digit_value}
@@ -8,7 +8,7 @@ use Rattle.std.proofs.lemmas.List.Folds.{list_all_at}
 use Rattle.std.proofs.lemmas.Option.{none-some}
 use Rattle.picture_script.specs.ScriptGrammar.{colour_in}
 
--- a digit that is read, or none
+-- a digit that was read, or none
 pub no_digit : (t : Bool) (d : ℕ) → None ≡ (if t then Some d else None) → t ≡ false
 no_digit true d e = absurd (none-some d e)
 no_digit false d e = refl
@@ -17,7 +17,7 @@ pub a_digit : (t : Bool) (d n : ℕ) → Some n ≡ (if t then Some d else None)
 a_digit true d n e = (refl, cc)
 a_digit false d n e = absurd (none-some n (sym e))
 
--- a digit of a row is no other byte
+-- all bytes of a row are digits
 pub all_digits : (digits : List ℕ) (i : ℕ) → list_all is_ascii_hexdigit digits ≡ true → i < length digits
     → is_ascii_hexdigit (get_or digits i 0) ≡ false
     → ⊥
@@ -60,7 +60,7 @@ colour_is : (word : List ℕ)
 unfolding colour_in shape digit value
 colour_is word = refl
 
--- a digit of the three is none
+-- a word with a byte that is no digit is no colour
 pub no_red : (word : List ℕ) → is_ascii_hexdigit (slice_index word 1) ≡ false → colour_in word ≡ None
 unfolding digit
 no_red word red =
@@ -86,7 +86,7 @@ shape_holds : (word : List ℕ) → length word ≡ 4 → slice_index word 0 ≡
 unfolding shape
 shape_holds word size zero = search (rules, tests)
 
--- all three are digits
+-- a word whose three bytes are digits is a colour
 pub some_colour : (word : List ℕ) (red green blue : ℕ) → length word ≡ 4 → slice_index word 0 ≡ 48
     → Some red
     ≡ (if is_ascii_hexdigit (slice_index word 1) then Some (digit_value (slice_index word 1)) else None)

@@ -1,4 +1,4 @@
--- Hexadecimal digits as the crate `hex` reads them: a word of four of them, and a digit behind a 0.
+-- Hexadecimal digits as the crate `hex` reads them: a word of four digits, and a digit after a 0.
 use Rattle.std.proofs.Common.{◌≡◌, ℕ, ◌+◌, ◌*◌, ◌<◌, true, false, if◌then◌else◌, List, [], ◌∷◌, length, slice_index, Option, Some, None, Result, Ok, Err, refl, sym, ap, ◌∙◌, subst, arith, inl, inr}
 use Rattle.std.specs.Prelude.{MatchResult}
 use Rattle.std.specs.Int.{from_be_bytes}
@@ -11,7 +11,7 @@ use Rattle.hex.specs.declared.error.FromHexError.{FromHexError}
 use Rattle.picture_script.specs.ScriptGrammar.{colour_in}
 use Rattle.picture_script.proofs.HexDigits.{a_digit, no_digit, no_red, no_green, no_blue, some_colour}
 
--- both read the same digits
+-- the digit of a byte, as the definitions read it
 abbrev pub digit_in : ℕ → Option ℕ
 digit_in c = if is_ascii_hexdigit c then Some (digit_value c) else None
 
@@ -54,7 +54,7 @@ digit_none c e = no_digit (is_ascii_hexdigit c) (digit_value c) (sym e ∙ digit
 add_zero : (v : ℕ) → 0 + v ≡ v
 add_zero v = omega arith
 
--- a digit behind a 0
+-- the crate reads a digit after a 0 as the definitions do
 abbrev DigitRead : ℕ → Result (List ℕ) FromHexError → Type 0
 DigitRead c bytes = MatchResult bytes
     (λ value. Some (slice_index value 0) ≡ digit_in c) (λ e. None ≡ digit_in c)
@@ -67,7 +67,7 @@ digit_read_as c None e = rw (read c 1 None e) (sym e ∙ digit_is c)
 pub digit_read : (c : ℕ) → DigitRead c (decode_sized (48 ∷ c ∷ []) 1)
 digit_read c = digit_read_as c (hex_digit_value c) refl
 
--- digits are small
+-- the value of a digit is below 16
 hex_below : (d : ℕ) → is_ascii_hexdigit d ≡ true → digit_value d < 16
 hex_below d h = grind (arith, nat_tests)
 
@@ -76,7 +76,7 @@ digit_small c v e =
     let digit = a_digit (is_ascii_hexdigit c) (digit_value c) v e in
     subst (λ (n : ℕ). n < 16) (sym digit.1) (hex_below c digit.0)
 
--- four digits, the first of them 0
+-- `pair` are the two bytes of a word of four digits, of which the first is 0
 abbrev pub IsColour : List ℕ → List ℕ → Type 0
 IsColour word pair =
     (Some (256 * slice_index pair 0 + slice_index pair 1) ≡ colour_in word)
@@ -126,7 +126,7 @@ ok_of u = Ok u
 abbrev err_of : (U : Type 0) → FromHexError → Result U FromHexError
 err_of U f = Err f
 
--- what was decoded stands in the room for it
+-- the decoded bytes are in the buffer
 pub decoded : {U : Type 0} (bytes : Result (List ℕ) FromHexError) (out : List ℕ) (u t : U)
     (P : List ℕ → Type 0) (Q : Type 0)
     → MatchResult bytes (λ b. (ok_of u ≡ ok_of t) × (out ≡ b)) (λ e. ok_of u ≡ Err e)

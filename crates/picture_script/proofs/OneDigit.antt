@@ -40,7 +40,7 @@ read_at digit least most =
     ∙ one_is (numbers_in 1 (words_in (32 ∷ (48 + (digit - 48)) ∷ []))) (digit - 48)
     (all_below-at is_read 10 (digit - 48) test_digits (omega arith))
 
--- a space and a digit are one number
+-- a space and a digit are a list of one number
 pub one_digit : (words : List ℕ) → 2 ≤ length words → length words < 3 → get_or words 0 0 ≡ 32
     → is_ascii_digit (get_or words 1 0) ≡ true
     → numbers_in 1 (words_in words) ≡ Some ((get_or words 1 0 - 48) ∷ [])
@@ -51,6 +51,6 @@ one_digit words least most blank is =
     ap (λ ws. numbers_in 1 (words_in ws)) (two words least most ∙ ap (λ a. a ∷ digit ∷ []) blank)
     ∙ read_at digit low high
 
--- and a colour's number
+-- which can be the number of a colour
 pub digit_small : (digit : ℕ) → is_ascii_digit digit ≡ true → digit - 48 < 16
 digit_small digit is = grind arith

@@ -1,4 +1,4 @@
--- Parts of two windows that are the same.
+-- Equal parts of two windows.
 use Rattle.std.proofs.Common.{◌≡◌, ℕ, ◌+◌, ◌-◌, ◌*◌, ◌/◌, ◌%◌, ◌<◌, ◌≤◌, Bool, true, false, List, length, take, drop, get_or, below_more, get_or-set_other, get_or-set_same, sym, subst, ap, ap₂, ◌∙◌, inl, inr, arith}
 use borrow.Rule.Slice.PartMut.{put_mid}
 use Rattle.std.proofs.lemmas.Bool.{cases_lt}
@@ -10,7 +10,7 @@ use Rattle.std.proofs.lemmas.List.FromFn.{length-map-range_with_len, get_or-map-
 use Rattle.picture_script.specs.Board.{pixel_of, tile_of, IsSameColumn}
 use Rattle.picture_script.proofs.Drawn.{tile_is}
 
--- the elements from a place on, so many of them, are the same
+-- `count` elements from `start` on are equal
 abbrev pub SamePart : List ℕ → List ℕ → ℕ → ℕ → Type 0
 SamePart a b start count = (i : ℕ) → start ≤ i → i < start + count → get_or a i 0 ≡ get_or b i 0
 
@@ -69,7 +69,7 @@ columns_of_tile a b row column i row_ge column_ge i_lt same j lt =
     line_of_tile a b row column j lt same (3456 * (row - 1) + (6 * (column - 1) + i) + 288 * j) (omega arith)
     (omega arith)
 
--- what is told of a tile where it is told of its columns
+-- the mark of a tile, from the marks of its columns
 pub tile_told : (a b : List ℕ) (row i : ℕ) (equal : List Bool) (all : Bool) → 1 ≤ row → i < 48
     → ((x : ℕ) → x < 288 → get_or equal x false ≡ true ↔ IsSameColumn a b (3456 * (row - 1) + x))
     → (all ≡ true ↔ ((n : ℕ) → n < 6 → get_or equal (6 * i + n) false ≡ true))
@@ -85,7 +85,7 @@ tile_told a b row i equal all row_ge lt columns six =
           (columns_of_tile a b row (i + 1) n row_ge (omega arith) n_lt same)))),
     )
 
--- one mark more
+-- one more mark
 pub marks_more : (P : ℕ → Type 0) (marks : List Bool) (i : ℕ) (told : Bool) → i < length marks
     → ((m : ℕ) → m < i → get_or marks m false ≡ true ↔ P m) → (told ≡ true ↔ P i)
     → (m : ℕ) → m < i + 1 → get_or (slice_set marks i told) m false ≡ true ↔ P m
@@ -108,7 +108,7 @@ line_at xs ys start x same lt =
     ∙ get_or-drop start xs x 0
     ∙ ap (λ zs. get_or zs (start + x) 0) same
 
--- one line more of the columns
+-- one more line of the columns
 pub column_more : (a b here there : List ℕ) (start j : ℕ) (old new : List Bool) → here ≡ a → there ≡ b
     → ((x : ℕ) → x < 288 → get_or old x false ≡ true
     ↔ ((m : ℕ) → m < j → get_or a (start + x + 288 * m) 0 ≡ get_or b (start + x + 288 * m) 0))

@@ -1,4 +1,4 @@
--- The ranges of what the lines of a script draw.
+-- The ranges of the values in the lines of a script.
 use Rattle.std.proofs.Common.{◌≡◌, ℕ, ◌+◌, ◌-◌, ◌<◌, ◌≤◌, Bool, true, false, List, [], ◌∷◌, length, take, drop, map, get_or, All, ap, sym, subst, ◌∙◌, inl, inr, arith}
 use Rattle.std.specs.Prelude.{fold, ◌==◌, if◌then◌else◌}
 use Rattle.std.proofs.lemmas.Bool.{cases_lt}
@@ -14,7 +14,7 @@ use Rattle.picture_script.specs.declared.script.Shown.{Shown}
 use Rattle.picture_script.proofs.Scripts.{before_prefix}
 use Rattle.picture_script.proofs.Drafts.{shown_count}
 
--- a line whose colours are in their ranges
+-- the colours of the line are in their ranges
 InColours : Drawing → Type 0
 InColours (Colour number value) = value < 4096
 InColours (Border colour) = colour < 16
@@ -31,7 +31,7 @@ either_value : (b : Bool) (m n : ℕ) → m < 4096 → n < 4096 → (if b then m
 either_value true m n p q = p
 either_value false m n p q = q
 
--- a picture whose colours are in their ranges
+-- the colours of the picture are in their ranges
 record IsSmall (picture : Picture) : Type 0 where
   pixels : (x y : ℕ) → picture.pixel x y < 16
   border : picture.border < 16
@@ -124,7 +124,7 @@ pub colours_below : (pixels : List ℕ) (lines : List ScriptLine) (shown : List 
 unfolding picture_colour
 colours_below pixels lines shown k n h = (before_small pixels lines shown k h).colours n
 
--- the times of a picture are those that are kept of it
+-- the times of a picture are its stored times
 times_at : (pixels : List ℕ) (lines : List ScriptLine) (shown : List Shown) (k : ℕ)
     → IsIndexed pixels lines shown → k < length shown
     → get_or {A = ℕ × ℕ} (shows (all_said pixels lines)) k (0, 0) ≡ times_of (get_or shown k no_show)
@@ -160,7 +160,7 @@ times_end pixels lines shown k h lt =
     let inside : k < length shown = omega arith in
     subst (λ (t : ℕ × ℕ). t.1 < 450000) (sym (times_at pixels lines shown k h inside)) (h.ending k inside)
 
--- the same of a kept picture of the script that a struct shows
+-- the same for a stored picture of the script in a struct
 module _ (pixels : List ℕ) (lines : List ScriptLine) (shown : List Shown) (script : List Drawing)
     (view : all_said pixels lines ≡ script) (h : IsIndexed pixels lines shown) where
   pub shown_inside : (k : ℕ) → k < pictures script → k < length shown

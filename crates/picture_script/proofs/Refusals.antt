@@ -1,4 +1,4 @@
--- Why a line is refused, and what a draft is once it takes one.
+-- Why a line is refused, and the draft after a line that is accepted.
 use Rattle.std.proofs.Common.{◌≡◌, inl, inr, get_or, ℕ, ◌+◌, ◌<◌, ◌≤◌, Bool, true, false, List, [], ◌∷◌, ◌++◌, length, refl, ap, sym, subst, ◌∙◌, arith}
 use Rattle.std.specs.Prelude.{Option, Some, None, Result, Ok, Err, if◌then◌else◌, not, ◌||◌, nat_le, nat_lt, slice_index, codes}
 use Rattle.std.specs.Str.{bytes_eq}
@@ -19,7 +19,7 @@ pub bad_line : (before : List Drawing) (said : Option Drawing) → said ≡ None
 unfolding checked_line
 bad_line before said h = ap (checked_line before) h
 
--- whether a line is not that of a picture
+-- whether a line is not a `show` line
 abbrev pub draws : Drawing → Bool
 draws (Show ready hold) = false
 draws _ = true
@@ -173,7 +173,7 @@ pub no_rect : (words : List (List ℕ)) → None ≡ numbers_in 5 words → rect
 unfolding rect_line
 no_rect words h = ap rect_of (sym h)
 
--- the command that a word is
+-- the command that a word names
 pub command_is : (before : List Drawing) (command : List ℕ) (words : List (List ℕ))
     (colour border fill rect row show : Bool)
     → bytes_eq command (codes "colour") ≡ colour → bytes_eq command (codes "border") ≡ border
@@ -199,7 +199,7 @@ command_is before command words colour border fill rect row show c b f r w s =
     else (if show then checked_line before (show_line words)
     else Err UnknownCommand))))))) c (rw (← b, ← f, ← r, ← w, ← s) refl)
 
--- what the words of a line say by the command that they begin with
+-- the meaning of the words of a line, by their command
 pub said_colour : (before : List Drawing) (all words : List (List ℕ)) → all ≡ codes "colour" ∷ words
     → checked_words before all ≡ checked_line before (colour_line words)
 unfolding checked_words checked_command
@@ -234,7 +234,7 @@ other_word : (command text : List ℕ) → (command ≡ text → ⊥) → bytes_
 other_word command text other = elim (cases_Bool (bytes_eq command text))
     [ inl same ↦ absurd (other ((bytes_eq-Decides command text).0 same)) | inr differ ↦ differ ]
 
--- words that begin with none of the commands
+-- words without a command
 pub said_nothing : (before : List Drawing) (all : List (List ℕ))
     → (get_or all 0 [] ≡ codes "colour" → ⊥) → (get_or all 0 [] ≡ codes "border" → ⊥)
     → (get_or all 0 [] ≡ codes "fill" → ⊥)
@@ -249,7 +249,7 @@ said_nothing before (command ∷ words) c b f r w s =
     (other_word command (codes "fill") f) (other_word command (codes "rect") r)
     (other_word command (codes "row") w) (other_word command (codes "show") s)
 
--- The lines in turn.
+-- The lines one after another.
 
 pub one_taken : (number : ℕ) (old new : List Drawing) (line : List ℕ) (rest : List (List ℕ))
     → script_step old line ≡ Ok new

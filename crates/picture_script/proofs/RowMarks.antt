@@ -7,12 +7,12 @@ use Rattle.picture_script.specs.Script.{Drawing, Border, drawn_by, lines_before,
 use Rattle.picture_script.specs.DrawnRows.{DrawsOn, KeepsRows, LeavesRows, MarksRows, TellsRows}
 use Rattle.picture_script.proofs.Scripts.{before_prefix}
 
--- marks so far: a row that is not marked was not marked before, and is not between these
+-- an unmarked row was unmarked before, and is not between `from` and `to`
 abbrev pub Unmarked : List Bool → List Bool → ℕ → ℕ → Type 0
 Unmarked old new from to =
     (r : ℕ) → get_or new r true ≡ false → (get_or old r true ≡ false) × ((r < from) ⊎ (to ≤ r))
 
--- a row that is marked was marked before, or is between these
+-- a marked row was marked before, or is between `from` and `to`
 abbrev pub Marked : List Bool → List Bool → ℕ → ℕ → Type 0
 Marked old new from to =
     (r : ℕ) → get_or new r false ≡ true → (get_or old r false ≡ true) ⊎ ((from ≤ r) × (r < to))
@@ -86,7 +86,7 @@ not_marked n r told = elim (cases_lt r n) [
       (get_or_past (replicate n false) r false (omega (arith, length-replicate n false, past)))
 ]
 
--- one line more, which may mark a row
+-- one more line, which may mark a row
 pub one_line_more : (script : List Drawing) (from i r : ℕ) (rows : List Bool) (line : Drawing) → from ≤ i
     → line ≡ get_or script i (Border 0) → MarksRows script from i rows
     → (get_or rows r false ≡ true) ⊎ DrawsOn line r

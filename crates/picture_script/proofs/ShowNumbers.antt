@@ -1,4 +1,4 @@
--- As many lines show a picture as there are pictures.
+-- The number of `show` lines is the number of pictures.
 use Rattle.std.proofs.Common.{◌≡◌, ℕ, ◌+◌, Bool, true, false, List, [], ◌∷◌, ◌++◌, length, get_or, refl, ap, sym, subst, ◌∙◌, arith, length-append}
 use Rattle.std.specs.Prelude.{Option, Some, None, Result, Ok, Err, if◌then◌else◌, not, ◌&&◌, codes, filter_map}
 use Rattle.std.specs.Str.{bytes_eq}
@@ -14,7 +14,7 @@ use Rattle.picture_script.specs.declared.reasons.ScriptWhy.{ScriptWhy}
 use Rattle.picture_script.specs.declared.reasons.ScriptWhy.TheVariants.{UnknownCommand}
 use Rattle.picture_script.proofs.Refusals.{command_is, one_taken, reading_ends, step_heard, step_passed}
 
--- the pictures that a line adds
+-- the number of pictures that a line adds
 abbrev adds : Drawing → ℕ
 adds (Show ready hold) = 1
 adds _ = 0
@@ -39,7 +39,7 @@ pictures-push before line =
     ∙ length-append (filter_map shown_times before) (filter_map shown_times (line ∷ []))
     ∙ ap (λ n. length (filter_map shown_times before) + n) (adds_one line)
 
--- ---- what the words of each command say
+-- ---- the meaning of the words of each command
 
 colour_adds : (number value : Option ℕ) (line : Drawing) → colour_of number value ≡ Some line → adds line ≡ 0
 colour_adds (Some n) (Some v) line h = let is : line ≡ Colour n v = cc in ap adds is
@@ -179,7 +179,7 @@ show_command before command words line is h =
 is_show : (command : List ℕ) → bytes_eq command (codes "show") ≡ true → command ≡ codes "show"
 is_show command h = (bytes_eq-Decides command (codes "show")).0 h
 
--- ---- a line adds a picture exactly where it shows one
+-- ---- a line adds a picture if and only if it is a `show` line
 
 grown_is : (before next : List Drawing) (line : Drawing) → grown before (Ok line) ≡ Ok next
     → next ≡ before ++ line ∷ []
@@ -231,7 +231,7 @@ unfolding shown_one
 one_more true number rest = omega arith
 one_more false number rest = omega arith
 
--- what is refused is not read
+-- a refused text is not read
 never : (why : ℕ × ScriptWhy) (script : List Drawing) (n m : ℕ) → Err why ≡ Ok script → n ≡ m
 never why script n m h = cc
 
@@ -244,7 +244,7 @@ line_refused number before line rest why script n m is h =
     never (number, why) script n m
     (sym (read_on-refused script_step (λ script. Ok script) number before why line rest is) ∙ h)
 
--- the lines from a number on add as many pictures as show lines
+-- these lines add as many pictures as they have `show` lines
 abbrev Counts : List (List ℕ) → Type 0
 Counts lines = (number from : ℕ) (before script : List Drawing)
     → checked_lines number before lines ≡ Ok script
@@ -279,7 +279,7 @@ pub lines_are_pictures : (text : List ℕ) (script : List Drawing) → read_scri
 unfolding read_script shows
 lines_are_pictures text script h = omega (arith, lines_count (lines_of text) 1 1 [] script h)
 
--- ---- the first line that shows one
+-- ---- the first `show` line
 
 pub passed_on : (number : ℕ) (lines rest : List (List ℕ)) (line : List ℕ) → lines ≡ line ∷ rest
     → is_show_line line ≡ false
@@ -303,7 +303,7 @@ pub none_left : (number : ℕ) (lines : List (List ℕ)) → lines ≡ [] → sh
 unfolding show_lines_from
 none_left number lines is = ap (show_lines_from number) is
 
--- ---- what the first words of a line tell
+-- ---- the first words of a line decide
 
 pub passed_shows_none : (line : List ℕ) → is_passed_over line ≡ true → is_show_line line ≡ false
 unfolding is_show_line

@@ -8,7 +8,7 @@ use borrow.Rule.Slice.PartMut.{put_mid}
 use Rattle.picture_script.specs.Script.{is_within}
 use Rattle.picture_script.specs.Board.{pixel_of, ArePixelsOf, AreWindowPixels, AreColours}
 
--- a colour everywhere, and 0 past the end
+-- one colour everywhere, and 0 beyond the end
 pub same-below : (n colour i : ℕ) → colour < 16 → get_or (replicate n colour) i 0 < 16
 same-below n colour i small = elim (cases_lt i n) [
   | inl lt ↦ rw (get_or-replicate {A = ℕ} n i colour 0 lt) small
@@ -44,7 +44,7 @@ pub get-pixel : (pixels : List ℕ) (x y value : ℕ) → value ≡ get_or pixel
 unfolding pixel_of
 get-pixel pixels x y value h = h
 
--- A part of the pixels is written anew.
+-- A part of the pixels is overwritten.
 
 pub written-at : (old piece : List ℕ) (start count i : ℕ) → start + count ≤ length old → length piece ≡ count
     → get_or (put_mid start count old piece) i 0
@@ -76,7 +76,7 @@ written-at old piece start count i within size =
           ]
     ]
 
--- the pixels once the part is back in its place
+-- the pixels after the part is back in its place
 pub whole_again : (pixels rest : List ℕ) (count : ℕ) → count ≡ length pixels
     → take count (pixels ++ rest) ≡ pixels
 whole_again pixels rest count size = take_at pixels rest count (sym size)
@@ -122,7 +122,7 @@ written-becomes old piece x y count whole within down size x' y' x'_lt y'_lt =
 pub solid-small : (n colour : ℕ) → colour < 16 → AreColours (replicate n colour)
 solid-small n colour small i = same-below n colour i small
 
--- a row as the code writes it
+-- a row, as the code writes it
 pub row-written : (items old new piece : List ℕ) (len x y count : ℕ) → old ≡ items → new ≡ piece
     → length items ≡ 55296 → len ≡ length items → x + count ≤ 288 → y < 192 → length piece ≡ count
     → (x' y' : ℕ) → x' < 288 → y' < 192

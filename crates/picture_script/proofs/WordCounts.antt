@@ -1,4 +1,4 @@
--- Lines of a wrong number of words.
+-- Lines with a wrong number of words.
 use Rattle.std.proofs.Common.{◌≡◌, ◌≢◌, ℕ, List, [], ◌∷◌, length, refl, ap}
 use Rattle.std.specs.Prelude.{Some, None, Bool, true, false, ◌&&◌, if◌then◌else◌, map}
 use Rattle.std.specs.List.{list_all}

@@ -1,4 +1,4 @@
--- Bits that were a frame, changed within sixteen neighbouring ones.
+-- The bits of a frame, changed within sixteen neighbouring bits.
 use Rattle.std.proofs.Common.{◌≡◌, ◌+◌, ◌-◌, ◌≤◌, Bool, List, ◌++◌, length, take, drop, refl, ◌∙◌, arith, length-append, subst}
 use Rattle.std.specs.Prelude.{◌≢◌, Ok, Err, Result}
 use Rattle.bit_lists.specs.Check.{check_bits, IsChecked}

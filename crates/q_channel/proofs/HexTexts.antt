@@ -18,7 +18,7 @@ lower_at : (k n : ℕ) → k ≡ n → k < 16 → slice_index lower_digits k ≡
 unfolding same_digit
 lower_at k n same lt = eqb-true _ _ (all_below-at same_digit 16 k all_same lt) ∙ ap digit_char same
 
--- the digits of each byte, one behind another
+-- the digits of each byte, one after another
 pub lower_is_hex : (bytes : List ℕ) → ((k : ℕ) → get_or bytes k 0 < 256) → encode_lower bytes ≡ hex_of bytes
 unfolding encode_with
 lower_is_hex [] all = refl

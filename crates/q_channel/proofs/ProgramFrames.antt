@@ -1,4 +1,4 @@
--- Frames of the program, whose digits are those of their line.
+-- Frames of the program, with the digits of their line.
 use Rattle.std.proofs.Common.{◌≡◌, ℕ, ◌+◌, ◌*◌, ◌/◌, ◌%◌, ◌^◌, ◌<◌, ◌≤◌, Bool, true, List, [], ◌∷◌, ◌++◌, length, take, drop, None, refl, sym, ap, ap₂, ◌∙◌, arith}
 use Rattle.std.specs.Prelude.{◌&&◌, nat_le, Ok, codes}
 use Rattle.std.specs.Char.{digit_char}
@@ -18,7 +18,7 @@ use Rattle.q_channel.proofs.Ranges.{passes}
 use Rattle.q_channel.proofs.Frames.{good_at, is_frame}
 use Rattle.q_channel.proofs.ReadingLaws.{only_reading}
 
--- what the bytes of a frame of the program are read as, over the steps of the code
+-- the reading of a frame of the program, from the values that the code reads
 pub program_reading : (bytes : List ℕ) (m : List Bool) (kind : Kind) (mode track point : ℕ)
     → m ≡ bits_of_bytes bytes
     → length (bits_of_bytes bytes) ≡ 96 → kind ≡ kind_by mode track point → kind ≡ ProgramFrame
@@ -34,11 +34,11 @@ program_reading bytes m kind mode track point same size is program e4 e8 e16 wit
     (is_frame bytes m (frame_at kind m) (frame_at kind m) same refl good check))
     ∙ (λ i. Ok (frame_at (program i) (same i)))
 
--- characters put at a place of a line
+-- a line with characters written at a place
 abbrev pub put_at : ℕ → List ℕ → List ℕ → List ℕ
 put_at at characters text = take at text ++ characters ++ drop (at + length characters) text
 
--- the characters of the two digits that a byte stands for
+-- the characters of the two decimal digits in a byte
 abbrev pub pair : ℕ → List ℕ
 pair byte = (48 + byte / 16) ∷ (48 + byte % 16) ∷ []
 
@@ -62,13 +62,13 @@ within low high byte h =
     let three = and_parts (nat_le (byte / 16) 9) (nat_le (byte % 16) 9) two.0 in
     record { tens = leb-true _ _ three.0; ones = leb-true _ _ three.1; most = leb-true _ _ one.1 }
 
--- two decimal digits are those of their number
+-- two decimal digits are the digits of their number
 pair_is : (byte n : ℕ) → byte / 16 ≤ 9 → byte % 16 ≤ 9 → n ≡ bcd_value byte → pair byte ≡ digits 2 n
 pair_is byte n tens ones is =
     ap₂ (λ a b. a ∷ b ∷ []) (decimal_char (byte / 16) (n / 10 ^ 1 % 10) tens (omega arith))
     (decimal_char (byte % 16) (n / 10 ^ 0 % 10) ones (omega arith))
 
--- the parts of a time are the numbers that it is made of
+-- the parts of a time are the numbers of which it was made
 minute_is : (a b c : ℕ) → b ≤ 59 → c ≤ 74 → (75 * (60 * a + b) + c) / 4500 ≡ a
 minute_is a b c b_le c_le = omega arith
 
@@ -78,11 +78,11 @@ second_is a b c b_le c_le = omega arith
 frame_is : (a b c : ℕ) → c ≤ 74 → (75 * (60 * a + b) + c) % 75 ≡ c
 frame_is a b c c_le = omega arith
 
--- the line before its digits are put
+-- the line before its digits are written
 abbrev template : List ℕ
 template = codes "000000 0 track 00 index 00 00:00:00 abs 00:00:00\n"
 
--- the line with its digits, as the code puts them one behind another
+-- the line with its digits, as the code writes them
 abbrev pub filled : List ℕ → List ℕ → List ℕ → List ℕ → List ℕ → List ℕ → List ℕ → List ℕ → List ℕ → List ℕ
     → List ℕ
 filled number control track index m s f m2 s2 f2 =
@@ -114,7 +114,7 @@ line_of number control track index m s f m2 s2 f2 =
     ++ (m2 ++ codes ":" ++ s2 ++ codes ":" ++ f2))
     ++ codes "\n"
 
--- the line that the code puts together
+-- the line that the code writes
 pub program_text : (m : List Bool) (block : ℕ) → first_outside m program_ranges ≡ None
     → filled (digits 6 block) (hex_digits 1 (field_value m 0 4)) (pair (field_value m 8 8))
     (pair (field_value m 16 8))

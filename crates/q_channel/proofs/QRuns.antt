@@ -1,4 +1,4 @@
--- What the stage of the lines gives for blocks, and what it counts.
+-- The lines and the counts of the stage for Q frames.
 use Rattle.std.proofs.Common.{◌≡◌, ℕ, ◌+◌, ◌^◌, ◌<◌, ◌≤◌, Bool, true, false, List, [], ◌∷◌, ◌++◌, length, map, refl, ap, ap₂, ◌∙◌, arith}
 use Rattle.std.specs.Prelude.{min, Result, is_err, count_by, if◌then◌else◌}
 use Rattle.std.specs.List.{concat}
@@ -18,7 +18,7 @@ use Rattle.q_channel.specs.QList.{q_lines, AreQReadings}
 abbrev pub reading_at : List ℕ → Result QFrame QFault
 reading_at block = reading_of (q_bits block)
 
--- the lines of blocks from the number of the next block on
+-- the lines of blocks, from the number of the next block
 pub lines_run : (block bad : ℕ) (blocks : List (List ℕ)) → block + length blocks ≤ 1000000
     → concat (run_gives q_next q_give (record { block = block; bad = bad }) blocks)
     ≡ q_lines block (map reading_at blocks)
@@ -41,7 +41,7 @@ at_most_one : (refused : Bool) → (if refused then 1 else 0) ≤ 1
 at_most_one true = omega arith
 at_most_one false = omega arith
 
--- the count is exact while there are few blocks
+-- the count does not saturate for a small number of blocks
 pub counts_run : (block bad : ℕ) (blocks : List (List ℕ)) → bad + length blocks < 2 ^ 32
     → (run_state q_next (record { block = block; bad = bad }) blocks).bad
     ≡ bad + count_by is_err (map reading_at blocks)
@@ -59,7 +59,7 @@ counts_run block bad (b ∷ blocks) few =
     ∙ counts_run (counted block) (bad + one) blocks (omega (arith, few, at_most_one refused))
     ∙ omega (arith, whole)
 
--- each list is as long
+-- each list has 96 elements
 abbrev pub Sized : List (List ℕ) → Type 0
 Sized [] = Unit {0}
 Sized (x ∷ xs) = (length x ≡ 96) × Sized xs

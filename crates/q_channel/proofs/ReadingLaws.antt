@@ -1,4 +1,4 @@
--- Each 96 bits are read as one thing.
+-- 96 bits have exactly one reading.
 use Rattle.std.proofs.Common.{◌≡◌, ℕ, Bool, true, false, List, ◌++◌, length, take, drop, Some, None, refl, sym, ap, ap₂, ◌∙◌, arith, length-drop, take-append-drop, eq-eqb, inl, inr}
 use Rattle.std.specs.Prelude.{Ok, Err, Result, Option}
 use Rattle.std.proofs.lemmas.Bool.{eqb-true, true≢false}
@@ -17,7 +17,7 @@ use Rattle.q_channel.proofs.KindFacts.{ranges_agree}
 use Rattle.q_channel.proofs.Frames.{is_good}
 use Rattle.q_channel.proofs.OneReading.{frame_checked, read_frame}
 
--- lists of sixteen bits with one number are equal
+-- lists of sixteen bits with the same number are equal
 same_bits : (a b : List Bool) → length a ≡ 16 → length b ≡ 16 → number_of a ≡ number_of b → a ≡ b
 same_bits a b a_size b_size same =
     sym (bits_of-number_of a) ∙ ap₂ bits_of (a_size ∙ sym b_size) same ∙ bits_of-number_of b
@@ -35,7 +35,7 @@ test_from_check : (m : List Bool) → drop 80 m ≡ check_bits (take 80 m) → q
 test_from_check m check =
     eq-eqb (number_of (drop 80 m)) (number_of (check_bits (take 80 m))) (ap number_of check)
 
--- the one reading is a reading
+-- the computed reading is a reading
 reading_by_tests : (m : List Bool) (test : Bool) (bad : Option ℕ) → length m ≡ 96 → q_check_matches m ≡ test
     → first_bad_field m ≡ bad
     → IsReading m (reading_by test bad (frame_at (kind_of m) m))
@@ -57,7 +57,7 @@ pub is_reading : (m : List Bool) → length m ≡ 96 → IsReading m (reading_of
 unfolding reading_of
 is_reading m size = reading_by_tests m (q_check_matches m) (first_bad_field m) size refl refl
 
--- nothing else is one
+-- there is no other reading
 pub only_reading : (m : List Bool) (what : Result QFrame QFault) → length m ≡ 96 → IsReading m what
     → what ≡ reading_of m
 unfolding reading_of first_bad_field

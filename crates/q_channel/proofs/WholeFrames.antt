@@ -13,12 +13,12 @@ use Rattle.q_channel.specs.declared.kinds.Kind.{Kind}
 use Rattle.q_channel.proofs.Frames.{good_at, bad_at, is_frame}
 use Rattle.q_channel.proofs.ReadingLaws.{only_reading}
 
--- a test that tells the other way round
+-- the opposite of a test
 pub turned_round : (test other : Bool) → other ≡ not test → test ≡ not other
 turned_round true other is = sym (ap not is)
 turned_round false other is = sym (ap not is)
 
--- bytes with the right check are a frame where no field is out of its range
+-- bytes with the right check are a frame if no field is out of its range
 pub is_whole : (bytes : List ℕ) (m : List Bool) (kind : Kind) (mode track point : ℕ) (bad : Option ℕ)
     → m ≡ bits_of_bytes bytes → length (bits_of_bytes bytes) ≡ 96
     → kind ≡ kind_by mode track point → mode ≡ field_value m 4 4 → track ≡ field_value m 8 8

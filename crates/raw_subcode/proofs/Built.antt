@@ -9,7 +9,7 @@ use Rattle.bit_lists.proofs.BitsLemmas.{length-bits_of, length-bits_of_bytes}
 use Rattle.raw_subcode.specs.Channels.{channel_bit, p_bits, q_bits, symbols_of}
 use Rattle.raw_subcode.proofs.Eight.{read_bit}
 
--- a bit of bytes by its byte and its place there
+-- a bit of some bytes, from its byte and its place there
 bit_of_bytes : (bytes : List ℕ) (n : ℕ) → n < 8 * length bytes
     → get_or (bits_of_bytes bytes) n false ≡ has_bit (7 - n % 8) (get_or bytes (n / 8) 0)
 unfolding bits_of_bytes

@@ -10,7 +10,7 @@ use Rattle.raw_subcode.specs.Lanes.{in_lanes, lanes_of_byte}
 
 -- ---- The table.
 
--- each number below n passes
+-- whether each number below n passes
 unfoldable pub all_below : (ℕ → Bool) → ℕ → Bool
 all_below p zero = true
 all_below p (suc n) = p n && all_below p n
@@ -51,7 +51,7 @@ lanes-lt byte found lt is =
 
 -- ---- Numbers side by side.
 
--- a byte of a number that holds numbers below 256
+-- a byte of a number with one number below 256 in each lane
 pub in_lanes-byte : (n k : ℕ) (f : ℕ → ℕ) → ((j : ℕ) → j < n → f j < 256) → k < n
     → in_lanes n f / 256 ^ k % 256 ≡ f k
 unfolding in_lanes
@@ -67,7 +67,7 @@ in_lanes-byte (suc n) (suc k) f small lt =
     ∙ ap (λ m. m / 256 ^ k % 256) shifted
     ∙ in_lanes-byte n k (λ j. f (suc j)) (λ j j_lt. small (suc j) (omega arith)) (omega arith)
 
--- so many for a bit that is set
+-- a number times a bit
 pub times_worth : (c : Bool) (n : ℕ) → n * (if c then 1 else 0) ≡ (if c then n else 0)
 times_worth true n = omega arith
 times_worth false n = omega arith

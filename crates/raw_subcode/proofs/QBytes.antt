@@ -11,7 +11,7 @@ use Rattle.raw_subcode.specs.Lanes.{in_lanes}
 use Rattle.raw_subcode.proofs.Eight.{eight_sum}
 use Rattle.raw_subcode.proofs.LaneNumbers.{times_worth}
 
--- one for a Q bit that is set
+-- 1 if the Q bit of a byte is set
 abbrev mark : ℕ → ℕ
 mark byte = if has_bit 6 byte then 1 else 0
 
@@ -54,7 +54,7 @@ unfolding in_lanes
 in_lanes-times zero m f = omega arith
 in_lanes-times (suc n) m f = ap (λ r. m * f 0 + 256 * r) (in_lanes-times n m (λ k. f (suc k))) ∙ omega arith
 
--- the byte of a sum at bit 56
+-- the byte at bit 56 of a sum
 high_byte : (q t s n : ℕ) → t < 256 → s < 72057594037927936
     → n ≡ 18446744073709551616 * q + 72057594037927936 * t + s
     → n % 18446744073709551616 / 72057594037927936 ≡ t
@@ -73,7 +73,7 @@ moved c0 c1 c2 c3 c4 c5 c6 c7 n l0 l1 l2 l3 l4 l5 l6 l7 is =
     + 1128103225065472 * c4 + 564049465049088 * c5 + 281474976710656 * c6)
     (n * 9241421688590303745) (omega arith) (omega arith) (omega arith)
 
--- what the product of eight bytes is
+-- the product collects the Q bits of eight bytes
 pub q_byte_is : (f : ℕ → ℕ) (n : ℕ) → ((k : ℕ) → k < 8 → f k < 256) → n ≡ in_lanes 8 f
     → bit_and n 4629771061636907072 / 64 * 9241421688590303745 % 18446744073709551616 / 72057594037927936
     ≡ number_of (map (λ j. has_bit 6 (f j)) (below 8))

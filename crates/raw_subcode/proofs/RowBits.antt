@@ -1,4 +1,4 @@
--- Rows of lanes: bits exchanged between two of them, and their lanes by turns.
+-- Rows of lanes: bits exchanged between two rows, and their lanes interleaved.
 use Rattle.std.proofs.Common.{◌≡◌, ℕ, zero, suc, ◌+◌, ◌-◌, ◌*◌, ◌/◌, ◌%◌, ◌^◌, ◌<◌, ◌≤◌, Bool, true, false, ◌==◌, ◌&&◌, List, [], ◌∷◌, ◌++◌, length, get_or, map, min, replicate, refl, sym, ap, ap₂, ◌∙◌, arith, inl, inr, bit_and, bit_xor}
 use Rattle.std.specs.Prelude.{if◌then◌else◌, slice_index, nat_le}
 use Rattle.std.specs.Int.{bit_at}
@@ -15,7 +15,7 @@ use Rattle.raw_subcode.specs.Channels.{IsPlanarForm}
 use Rattle.raw_subcode.specs.Rows.{in_rows}
 use Rattle.raw_subcode.proofs.LaneNumbers.{all_below, all_below-at}
 
--- ---- Bits that a mask names.
+-- ---- The bits of a mask.
 
 both_set : (a b : ℕ) → a < 2 → b < 2 → (min a b == 1) ≡ ((a == 1) && (b == 1))
 both_set zero zero a_lt b_lt = refl
@@ -44,7 +44,7 @@ has_bit-shl b places x =
           ∙ ap (λ c. c && has_bit (b - places) x) (sym (le-leb places b over))
     ]
 
--- a bit with the difference of two, where it is named
+-- combining a bit with a masked difference gives the other bit, if the mask has it
 named : (a b m : Bool) → exclusive_or a (exclusive_or a b && m) ≡ (if m then b else a)
 named true true true = refl
 named true true false = refl
@@ -55,7 +55,7 @@ named false true false = refl
 named false false true = refl
 named false false false = refl
 
--- the same from the side of the other
+-- the same for the other row
 named_over : (a b m n : Bool) → exclusive_or b (n && (exclusive_or a b && m)) ≡ (if n && m then a else b)
 named_over true true true true = refl
 named_over true true true false = refl
@@ -74,7 +74,7 @@ named_over false false true false = refl
 named_over false false false true = refl
 named_over false false false false = refl
 
--- the differences of two bytes at the bits of a mask, the second moved down
+-- the differences of two bytes at the bits of a mask, with the second byte moved down
 abbrev differences : ℕ → ℕ → ℕ → ℕ → ℕ
 differences upper lower places mask = bit_and (bit_xor upper (lower / 2 ^ places)) mask
 
@@ -168,7 +168,7 @@ upper_lane upper lower places mask b i size size' lt =
     ∙ ap (bit_xor (slice_index upper i)) other.1)
     ∙ upper_bit b (slice_index upper i) (slice_index lower i) places mask
 
--- the differences moved back up
+-- the differences moved up again
 abbrev moved_row : List ℕ → List ℕ → ℕ → ℕ → List ℕ
 moved_row upper lower places mask =
     zip2 (λ a s. a * 2 ^ s % 2 ^ 8) (other_row upper lower places mask) (replicate 16 places)
@@ -204,9 +204,9 @@ lower_lane upper lower places mask b i size size' small lt =
     ∙ ap₂ (λ a s. a * 2 ^ s % 2 ^ 8) other.1 (get_or-replicate 16 i places 0 lt)))
     ∙ lower_bit b (slice_index upper i) (slice_index lower i) places mask small
 
--- ---- Lanes by turns.
+-- ---- Interleaved lanes.
 
--- the lanes of two rows by turns, from one on
+-- the interleaved lanes of two rows, from a lane on
 abbrev from_both : ℕ → List ℕ
 from_both start = (start + 0) ∷ (start + 16) ∷ (start + 1) ∷ (start + 17) ∷ (start + 2) ∷ (start + 18)
     ∷ (start + 3) ∷ (start + 19)
@@ -261,7 +261,7 @@ pub second_woven : (even odd : List ℕ) → length even ≡ 16 → length odd �
     ≡ slice_index (if i % 2 == 0 then even else odd) (8 + i / 2)
 second_woven even odd size size' i lt = woven_lane even odd 8 i size size' test_second (omega arith) lt
 
--- a vector turned by four lanes
+-- a vector rotated by four lanes
 abbrev from_fourth : List ℕ
 from_fourth = 4 ∷ 5 ∷ 6 ∷ 7 ∷ 8 ∷ 9 ∷ 10 ∷ 11 ∷ 12 ∷ 13 ∷ 14 ∷ 15 ∷ 0 ∷ 1 ∷ 2 ∷ 3 ∷ []
 
@@ -280,7 +280,7 @@ four_on xs size k lt =
     ∙ ap (λ i. get_or (xs ++ xs) i 0) from
     ∙ get_or_append_left xs xs 0 (k + 4) (omega arith)
 
--- ---- A row that is stored.
+-- ---- One row is stored.
 
 pub stored : (bytes row : List ℕ) (first n : ℕ) → length row ≡ 16 → first + 16 ≤ length bytes → first ≤ n
     → n < first + 16
@@ -290,7 +290,7 @@ stored bytes row first n size room from to =
     ap (slice_index (put_chunk first bytes row)) place
     ∙ get_or-put_chunk_at first bytes row (n - first) 0 (omega arith) (omega arith)
 
--- two rows that are stored
+-- two rows are stored
 pub both_stored : (bytes row row' even odd : List ℕ) (k n : ℕ) → length bytes ≡ 96 → length row ≡ 16
     → length row' ≡ 16 → k < 3 → n / 32 ≡ k
     → ((i : ℕ) → i < 16 → slice_index row i ≡ slice_index (if i % 2 == 0 then even else odd) (i / 2))
@@ -318,7 +318,7 @@ both_stored bytes row row' even odd k n long size size' lt at first second =
 
 -- ---- Eight rows.
 
--- each of eight
+-- P holds for each of eight numbers
 pub eight : (P : ℕ → Type 0) → P 0 → P 1 → P 2 → P 3 → P 4 → P 5 → P 6 → P 7 → (k : ℕ) → k < 8 → P k
 eight P p0 p1 p2 p3 p4 p5 p6 p7 zero lt = p0
 eight P p0 p1 p2 p3 p4 p5 p6 p7 (suc zero) lt = p1
@@ -370,7 +370,7 @@ row_bits row f g i lt held e0 e1 e2 e3 e4 e5 e6 e7 =
     (held.bit 5 i lt ∙ e2) (held.bit 4 i lt ∙ e3)
     (held.bit 3 i lt ∙ e4) (held.bit 2 i lt ∙ e5) (held.bit 1 i lt ∙ e6) (held.bit 0 i lt ∙ e7)
 
--- one of two lanes by turns
+-- a lane of two interleaved rows
 by_turns : (even odd : List ℕ) (x i k v : ℕ) → x ≡ slice_index (if i % 2 == 0 then even else odd) k
     → (i % 2 ≡ 0 → slice_index even k ≡ v) → (i % 2 ≡ 1 → slice_index odd k ≡ v) → x ≡ v
 by_turns even odd x i k v is one other = elim (cases_lt (i % 2) 1) [
@@ -382,7 +382,7 @@ by_turns even odd x i k v is one other = elim (cases_lt (i % 2) 1) [
       is ∙ ap (λ p. slice_index (if p == 0 then even else odd) k) set ∙ other set
 ]
 
--- a lane of eight rows that were woven three times
+-- a lane of eight rows that were interleaved three times
 pub woven_thrice : (rows : List (List ℕ)) (a b c d e f : List ℕ) (x n m q p : ℕ)
     → x ≡ slice_index (if n % 2 == 0 then e else f) m
     → slice_index e m ≡ slice_index (if m % 2 == 0 then a else c) q
@@ -407,7 +407,7 @@ woven_thrice rows a b c d e f x n m q p x_is e_is f_is a_is b_is c_is d_is row p
     (λ m1. by_turns (get_or rows 3 []) (get_or rows 7 []) (slice_index d q) q p v d_is
     (λ q0. at 3 (omega arith)) (λ q1. at 7 (omega arith))))
 
--- the block of turned rows has the planar form of the rows
+-- a block of rows whose bits were exchanged has the planar form of the rows before
 pub rows_form : (bytes planar : List ℕ) (rows rows' : List (List ℕ)) → length planar ≡ 96
     → ((n : ℕ) → n < 96 → slice_index bytes n ≡ in_rows rows' (n % 8) (n / 8))
     → ((r w i : ℕ) → r < 8 → w < 8 → i < 16
@@ -427,9 +427,9 @@ rows_form bytes planar rows rows' size beside bits channels = record {
       ∙ ap (has_bit (7 - j)) (channels channel channel_lt k k_lt));
 }
 
--- ---- Rows one after another.
+-- ---- Rows one behind another.
 
--- the places of the last four lanes of the first twelve of a row, and of the first twelve of the next
+-- the places of the lanes 8 to 11 of a row, and of the first twelve lanes of the next row
 abbrev from_last : List ℕ
 from_last = 8 ∷ 9 ∷ 10 ∷ 11 ∷ 16 ∷ 17 ∷ 18 ∷ 19 ∷ 20 ∷ 21 ∷ 22 ∷ 23 ∷ 24 ∷ 25 ∷ 26 ∷ 27 ∷ []
 
@@ -466,9 +466,9 @@ twelve_of row next size i lt =
     ∙ get_or-append_right row next 16 (16 + i) 0 size (omega arith)
     ∙ ap (λ k. get_or next k 0) at
 
--- ---- Bytes at each place of eights.
+-- ---- Bytes at the places of groups of eight.
 
--- a byte of a block by its place in sixteen
+-- a byte of a block, from its place in a group of sixteen
 abbrev Placed : List ℕ → ℕ → ℕ → ℕ → List ℕ → Type 0
 Placed bytes j k m row =
     (p : ℕ) → p < 16 → 8 * k + j ≡ 16 * m + p → slice_index row p ≡ slice_index bytes (8 * k + j)
@@ -478,7 +478,7 @@ pub placed_in : (bytes row : List ℕ) (j k m : ℕ)
     → Placed bytes j k m row
 placed_in bytes row j k m lanes = λ p lt at. lanes p lt ∙ ap (slice_index bytes) (sym at)
 
--- rows that are woven four times: k is a lane of the last, and q, s and t are the lanes of those before it
+-- rows that were interleaved four times: k is a lane of the last rows, and q, s and t are lanes of the earlier ones
 pub woven_four : (bytes g0 g1 e0 e1 f0 f1 a0 a1 b0 b1 c0 c1 d0 d1 v0 v1 v2 v3 v4 v5 none : List ℕ)
     (x j k q s t p p' : ℕ)
     → Placed bytes j k 0 v0 → Placed bytes j k 1 v1 → Placed bytes j k 2 v2 → Placed bytes j k 3 v3
@@ -530,7 +530,7 @@ woven_four bytes g0 g1 e0 e1 f0 f1 a0 a1 b0 b1 c0 c1 d0 d1 v0 v1 v2 v3 v4 v5 non
     (λ s1. by_turns v3 none (slice_index d1 t) t p' v d1_is (λ t0. at3 p' (omega arith) (omega arith))
     (λ t1. absurd (omega arith)))))
 
--- the rows of a block have its planar form as turned rows
+-- the rows of a block, with their bits exchanged, are its planar form
 pub form_of_rows : (bytes planar : List ℕ) (rows rows' : List (List ℕ)) → length planar ≡ 96
     → ((n : ℕ) → n < 96 → slice_index planar n ≡ in_rows rows' (n / 12) (n % 12))
     → ((r w i : ℕ) → r < 8 → w < 8 → i < 16

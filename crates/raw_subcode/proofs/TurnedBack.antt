@@ -1,4 +1,4 @@
--- The block of the planar form of a block, and the planar form of the block of a planar form.
+-- From a block to its planar form and back, and the other way round.
 use Rattle.std.proofs.Common.{◌≡◌, ℕ, ◌+◌, ◌-◌, ◌*◌, ◌/◌, ◌%◌, ◌<◌, Bool, List, length, get_or, map, arith}
 use Rattle.std.specs.Prelude.{slice_index, All}
 use Rattle.std.proofs.lemmas.List.Elements.{All-map}
@@ -11,7 +11,7 @@ use Rattle.raw_subcode.specs.PlanarBytes.{block_from_planar, gathered_at, packed
 use Rattle.raw_subcode.proofs.Eight.{from_planar_is, to_planar_is}
 use Rattle.raw_subcode.proofs.QFrames.{one_block, one_planar_form}
 
--- eight bits are a byte
+-- eight bits form a byte
 byte : (f : ℕ → Bool) → number_of (map f (below 8)) < 256
 byte f = omega (arith, number_of-lt (map f (below 8)), length-map-range_with_len f 0 8)
 
@@ -42,7 +42,7 @@ block_bytes planar =
     All-map (λ b. b < 256) (gathered_at planar) (below 96)
     (λ k d lt. gathered-lt planar (get_or (below 96) k d))
 
--- the block of a planar form is the one that has it
+-- the block computed from a planar form is the only block with it
 pub only_block : (block planar : List ℕ) → length block ≡ 96 → All (λ b. b < 256) block
     → IsPlanarForm block planar
     → block ≡ block_from_planar planar
@@ -51,7 +51,7 @@ only_block block planar size small form =
     (length-map-range_with_len (gathered_at planar) 0 96)
     small (block_bytes planar) form (block_is planar form.size)
 
--- the planar form of a block is the one that it has
+-- the computed planar form of a block is its only planar form
 pub only_form : (block planar : List ℕ) → All (λ b. b < 256) planar → IsPlanarForm block planar
     → planar ≡ planar_form block
 only_form block planar small form =

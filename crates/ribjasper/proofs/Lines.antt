@@ -1,4 +1,4 @@
--- A line that was run, and the program's words that were.
+-- The line that the program runs, and its words.
 use Rattle.std.proofs.Common.{◌≡◌, ◌∙◌, [], List, Result, Ok, Err, IfOk, String, ap, subst, sym}
 use Rattle.std.specs.declared.alloc.Global.{Global}
 use Rattle.std.specs.declared.io.Error.{Error}
@@ -12,7 +12,7 @@ use Rattle.ribjasper.specs.declared.machine.RecordingWriter.{RecordingWriter}
 use Rattle.ribjasper.specs.Inputs.{AreInputs, InputSource, IsNewSource}
 use Rattle.ribjasper.specs.Runs.{AreOwnWords, IsSettled, RunsLine, RunsOver, RunsProgram, words_of_command, input_names, taken_bytes}
 
--- what was run over the words and the names into which a line was parted was run on the line
+-- a run over the words and the names in a line is a run of the line
 pub runs_line : (F : Type 0) {I O W : Type 0} (stdin : I) (openers : O × O) (contents : W → Bytes)
     (line words names : List (String Global)) (one other : InputReader I F O)
     (first second : Change (InputSource I F O)) (old unsettled new : Buffered W)
@@ -43,7 +43,7 @@ runs_line F stdin openers contents line words names one other first second old u
       settles = settles;
     }
 
--- a line that was run over a new output was the program's
+-- a run of the line over a new output is a run of the program
 pub runs_program : (F : Type 0) {I O W : Type 0} (words : Result (IntoIter (String Global) Global) Error)
     (stdin : I)
     (openers : O × O) (writer : W) (telling : RecordingWriter W) (line items : List (String Global))

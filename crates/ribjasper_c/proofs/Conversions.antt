@@ -41,11 +41,11 @@ abbrev pub stages_after : Form → ℕ → List ℕ → ℕ → BlockPacks
 stages_after form lead_in stream n =
     run_state (machine form).next (fresh form lead_in) (units_of (unit_size form) n stream)
 
--- the bytes that were given for them
+-- the output for them
 abbrev pub text_of : Form → ℕ → List ℕ → ℕ → List ℕ
 text_of form lead_in stream n = given (unit_size form) (machine form) (fresh form lead_in) stream n
 
--- ---- how long they are
+-- ---- their lengths
 
 entry_sized : (entry : Option (List ℕ)) (word : List ℕ) → IsFinding word entry
     → length (entry_bytes entry) ≡ 24
@@ -102,7 +102,7 @@ more_words Raw a b le = omega (arith, le)
 more_words Sector a b le = omega (arith, le)
 more_words Cooked a b le = omega (arith, le)
 
--- ---- one unit more
+-- ---- one more unit
 
 -- unit n
 abbrev pub unit_at : Form → List ℕ → ℕ → List ℕ
@@ -158,7 +158,7 @@ text_more form lead_in stream n old block piece now is gave =
     (m.gives (stages_after form lead_in stream n) unit)
     ∙ ap given_bytes (sym (gave ∙ ap₂ packs_give now is)))
 
--- ---- bytes that are written at the front
+-- ---- bytes written at the front
 
 assoc : (xs ys zs : List ℕ) → (xs ++ ys) ++ zs ≡ xs ++ (ys ++ zs)
 assoc [] ys zs = refl
@@ -180,7 +180,7 @@ put_more text piece room packs new at is fits now put =
     ∙ ap₂ (λ (a b : List ℕ). a ++ (piece ++ b)) front back
     ∙ sym (assoc text piece (drop (length (text ++ piece)) room))
 
--- what is written for one unit more fits into the room for all
+-- the output for one more unit fits into the room for all units
 pub piece_fits : (form : Form) (lead_in : ℕ) (stream : List ℕ) (n units room : ℕ) (old : BlockPacks)
     (block : List ℕ) (piece : Option (List ℕ))
     → length stream ≡ units * unit_size form → n < units → 24 * word_count form (units - lead_in) ≤ room

@@ -6,11 +6,11 @@ use Rattle.disc_time.specs.Counts.{most_lead_in}
 other_number : (n k : ℕ) → (n == k) ≡ false → (k == k) ≢ false → pos n ≢ pos k
 other_number n k other same = λ e. let equal : n ≡ k = cc in same (subst (λ m. (m == k) ≡ false) equal other)
 
--- nothing follows from an answer that is another
+-- two different answers are not equal
 pub is_other : (n k : ℕ) (A : Type 0) → (n == k) ≡ false → (k == k) ≡ true → pos n ≡ pos k → A
 is_other n k A other same e = absurd (other_number n k other (λ f. (cc)) e)
 
--- another answer than to a wrong use
+-- valid arguments, and an answer other than 2
 pub is_no_usage : (n form lead_in : ℕ) → (n == 2) ≡ false → form ≤ 2 → lead_in ≤ most_lead_in
     → (pos n ≡ pos 2) ↔ ((2 < form) ⊎ (most_lead_in < lead_in))
 is_no_usage n form lead_in other form_le lead_in_le = (
@@ -18,7 +18,7 @@ is_no_usage n form lead_in other form_le lead_in_le = (
   λ past. elim past [ inl lt ↦ absurd (omega (arith, lt)) | inr lt ↦ absurd (omega (arith, lt)) ],
 )
 
--- and than that all was written
+-- an answer other than 0 and 1 does not mean that everything was written
 pub is_not_done : (n : ℕ) (A : Type 0) → (n == 0) ≡ false → (n == 1) ≡ false
     → (pos n ≡ pos 0) ⊎ (pos n ≡ pos 1)
     → A

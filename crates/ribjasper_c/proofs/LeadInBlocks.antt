@@ -1,4 +1,4 @@
--- The packs of a block in their places, and the lead-in blocks of a stream.
+-- The packs of a block at their places, and the lead-in blocks of a stream.
 use Rattle.std.proofs.Common.{◌≡◌, ℕ, zero, suc, refl, ◌+◌, ◌*◌, ◌/◌, ◌<◌, ◌≤◌, min, List, [], ◌∷◌, ◌++◌, length, get_or, take, drop, sym, ap, ◌∙◌, arith, inl, inr, length-take-le}
 use Rattle.std.proofs.Math.Seq.{drop-append_seam, take-append_seam}
 use Rattle.std.proofs.lemmas.Bool.{cases_lt}
@@ -18,7 +18,7 @@ front_of (suc n) zero xs le = absurd (omega arith)
 front_of (suc n) (suc m) [] le = refl
 front_of (suc n) (suc m) (x ∷ xs) le = ap (λ l. x ∷ l) (front_of n m xs (omega arith))
 
--- eighteen bytes within a front that stays
+-- eighteen bytes in an unchanged front are unchanged
 pub stays : (at m : ℕ) (xs ys : List ℕ) → at + 18 ≤ m → take m xs ≡ take m ys
     → take 18 (drop at xs) ≡ take 18 (drop at ys)
 stays at m xs ys le same =
@@ -26,7 +26,7 @@ stays at m xs ys le same =
     ∙ ap (drop at) (sym (front_of (at + 18) m xs le) ∙ ap (take (at + 18)) same ∙ front_of (at + 18) m ys le)
     ∙ drop-take at 18 ys
 
--- the state after one block more
+-- the state after one more block
 pub block_more : (form : Form) (lead_in : ℕ) (bytes : List ℕ) (b : ℕ) (block : List ℕ) (old new : LeadInTexts)
     → b < length bytes / unit_size form → block ≡ get_or (blocks_of form bytes) b []
     → old ≡ run_state text_next (fresh_texts lead_in) (take b (blocks_of form bytes))
@@ -42,7 +42,7 @@ block_more form lead_in bytes b block old new lt is before step =
     ∙ sym (ap (run_state text_next (fresh_texts lead_in)) more
     ∙ run_state-append text_next (fresh_texts lead_in) (take b blocks) (get_or blocks b [] ∷ []))
 
--- the blocks of the lead-in, as many as there are
+-- the blocks of the lead-in, also of a stream that is shorter than its lead-in
 pub lead_in_blocks : (form : Form) (lead_in : ℕ) (bytes : List ℕ) (n : ℕ) → n ≡ length bytes / unit_size form
     → take lead_in (take (min n lead_in) (blocks_of form bytes)) ≡ take lead_in (blocks_of form bytes)
 lead_in_blocks form lead_in bytes n many =
@@ -54,7 +54,7 @@ lead_in_blocks form lead_in bytes n many =
     ∙ ap (λ (k : ℕ). take k blocks) other
     ∙ take_min lead_in blocks
 
--- what was put, and what stands before it
+-- the bytes that were written, and those before them
 pub put_here : (at : ℕ) (old pack rest new : List ℕ) → at ≤ length old → length pack ≡ 18
     → new ≡ take at old ++ (pack ++ rest)
     → take 18 (drop at new) ≡ pack
@@ -71,7 +71,7 @@ put_before at old rest new fits is =
     let front : length (take at old) ≡ at = length-take-le at old fits in
     ap (take at) is ∙ ap (λ n. take n (take at old ++ rest)) (sym front) ∙ take-append_seam (take at old) rest
 
--- the packs up to one, and one more
+-- pack k is written, and the packs before it are unchanged
 pub pack_more : (block old new pack rest : List ℕ) (k : ℕ) → k < 4 → length old ≡ 72 → length pack ≡ 18
     → new ≡ take (18 * k) old ++ (pack ++ rest) → pack ≡ pack_at block k
     → ((j : ℕ) → j < k → take 18 (drop (18 * j) old) ≡ pack_at block j) → (j : ℕ) → j < k + 1

@@ -1,4 +1,4 @@
--- What a call that lists texts answers.
+-- The answers of a call that lists texts.
 use Rattle.std.proofs.Common.{◌≡◌, ◌≢◌, ◌⊎◌, ℕ, ℤ, List, Ok, Err, Result, refl, sym, ap, ◌∙◌, subst, inl, inr}
 use Rattle.std.specs.Prelude.{pos, IsOk, IfOk, IfErr}
 use mir.Val.{to_z, of_z}
@@ -24,7 +24,7 @@ same_counts texts good bad other good' bad' other' e f g =
     ∙ ap (λ (n : ℕ). counted_lines texts good' n other) f
     ∙ ap (λ (n : ℕ). counted_lines texts good' bad' n) g
 
--- an answer that is passed on stays
+-- an answer is unchanged as a C integer
 pub passed_on : (fault : TextFault) (answer : ℤ) → answer ≡ fault_answer fault
     → to_z w32 (of_z w32 answer) ≡ fault_answer fault
 passed_on (Missing seq) answer e = ap (λ (z : ℤ). to_z w32 (of_z w32 z)) e
@@ -32,7 +32,7 @@ passed_on NoSize answer e = ap (λ (z : ℤ). to_z w32 (of_z w32 z)) e
 passed_on (Malformed seq byte) answer e = ap (λ (z : ℤ). to_z w32 (of_z w32 z)) e
 passed_on NoMemory answer e = ap (λ (z : ℤ). to_z w32 (of_z w32 z)) e
 
--- memory is short, or the fault is that of the packs
+-- memory is not found, or the packs have this fault
 abbrev IsFaultOrShort : TextFault → Result Texts TextFault → Type 0
 IsFaultOrShort fault texts = (fault ≡ NoMemory) ⊎ (texts ≡ Err fault)
 
@@ -43,7 +43,7 @@ fault_or_short NoSize texts is = inr is
 fault_or_short (Malformed seq byte) texts is = inr is
 fault_or_short NoMemory texts is = inl refl
 
--- where memory is wanted for them, packs give texts
+-- if the answer is that memory is not found, the packs have texts
 pub gives_texts : (fault : TextFault) (answer : ℤ) (texts : Result Texts TextFault)
     → IsTextFault fault texts → answer ≡ fault_answer fault → answer ≡ pos 7
     → IsOk texts
@@ -85,7 +85,7 @@ module _ (form : Form) (lead_in : ℕ) (stream : List ℕ) where
   all_refused s (Err fault) read h =
       subst (λ (r : Result Texts TextFault). IsTextFault fault r) (ap read_texts read.kept) h
 
-  -- the answer tells why the texts are refused
+  -- the answer is the reason why the texts are refused
   abbrev Refusal : ℤ → Listed → Type 0
   Refusal answer told = (fault : TextFault)
       × IsRefusedBy fault form lead_in stream

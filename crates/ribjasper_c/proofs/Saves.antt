@@ -4,7 +4,7 @@ use mir.Val.{to_z, of_z}
 use mir.Syntax.{w32}
 use Rattle.std.specs.Prelude.{pos, negsuc}
 
--- a number that is passed on stays the same
+-- an answer is unchanged as a C integer
 pub passed_on_save : (answer : ℤ) → (answer ≡ pos 0) ⊎ (answer ≡ negsuc 0) ⊎ (answer ≡ pos 7)
     → to_z w32 (of_z w32 answer) ≡ answer
 passed_on_save answer (inl done) = ap (λ (z : ℤ). to_z w32 (of_z w32 z)) done ∙ sym done

@@ -1,4 +1,4 @@
--- What a player answers where it is known what is listed.
+-- The answers of a player whose listing is known.
 use Rattle.std.proofs.Common.{◌≡◌, ℕ, ◌*◌, ◌≤◌, List, length, Some, Result, Ok, Err, refl, subst, arith}
 use Rattle.std.specs.Io.KnownBytes.{Appends}
 use Rattle.raw_subcode.specs.declared.form.Form.{Form}
@@ -23,7 +23,7 @@ use Rattle.stream_stages.specs.declared.played.PlayStop.TheVariants.{ReadFault, 
 use Rattle.stream_stages.proofs.Restoring.{taken_all}
 use Rattle.round_trips.specs.Answers.{PutsTexts}
 
--- an authored stream is made of whole blocks
+-- an authored stream has whole blocks
 pub whole_blocks : (sheet : CueSheet) (script : List Drawing) (lead_in audio : ℕ) (bytes : List ℕ)
     (packs : List (List ℕ)) → IsAuthored (disc_of sheet script lead_in audio) bytes packs
     → length bytes ≤ most_units * 96 → IsWholeInput Raw bytes

@@ -1,11 +1,11 @@
--- Slots that are whole or damaged, and the counts of what they hold.
+-- Intact and damaged slots, and the counts of their packs.
 use Rattle.std.proofs.Common.{◌≡◌, ℕ, zero, suc, ◌+◌, ◌<◌, ◌⊎◌, Bool, true, false, not, cond, List, [], ◌∷◌, length, get_or, replicate, count_by, inl, inr, refl, sym, ap, subst, ◌∙◌, arith}
 use Rattle.std.proofs.lemmas.Bool.{and_parts, and_left, and_right, not_from_true, not_from_false}
 use Rattle.std.proofs.lemmas.List.Sums.{sum_by-cons}
 use Rattle.cdtext_packs.specs.Packs.{check_matches, is_first_block, is_good, is_of_other_block}
 use Rattle.round_trips.specs.Damage.{AreFound, count_whole, count_hurt}
 
--- the packs of whole slots are good, and the checks of the others do not match
+-- the packs of intact slots are good, and the checks of the others do not match
 abbrev pub AreMarked : List Bool → List (List ℕ) → Type 0
 AreMarked [] [] = Unit {0}
 AreMarked (true ∷ whole) (found ∷ rest) = (is_good found ≡ true) × AreMarked whole rest
@@ -28,7 +28,7 @@ marked (false ∷ whole) (p ∷ written) [] are good = absurd are
 marked (false ∷ whole) (p ∷ written) (f ∷ found) are good =
     (are.0, marked whole written found are.1 (λ i less. good (suc i) (omega arith)))
 
--- what holds of each pack that was written holds of each that is found, or its check does not match
+-- a fact about each written pack holds for each pack that is found, unless its check does not match
 pub found_each : (P : List ℕ → Type 0) (whole : List Bool) (written found : List (List ℕ))
     → AreFound whole written found
     → ((i : ℕ) → i < length written → P (get_or written i [])) → (i : ℕ) → i < length found

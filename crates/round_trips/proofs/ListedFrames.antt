@@ -1,4 +1,4 @@
--- The frames of the blocks of an authored stream, and what is listed of them.
+-- The frames of the blocks of an authored stream, and their listing.
 use Rattle.std.proofs.Common.{◌≡◌, ℕ, zero, suc, ◌+◌, ◌-◌, ◌*◌, ◌/◌, ◌<◌, Bool, List, [], ◌∷◌, length, get_or, map, drop, inl, inr, refl, sym, ap, ap₂, subst, ◌∙◌, arith}
 use Rattle.std.specs.Prelude.{Result, Ok, is_err, count_by, if◌then◌else◌}
 use Rattle.std.proofs.lemmas.Bool.{cases_lt}

@@ -1,4 +1,4 @@
--- The texts of an authored lead-in, whole or damaged.
+-- The texts of an authored lead-in, intact or damaged.
 use Rattle.std.proofs.Common.{◌≡◌, ◌≢◌, ℕ, suc, ◌+◌, ◌*◌, ◌/◌, ◌%◌, ◌<◌, ◌≤◌, Bool, true, false, ◌&&◌, ◌==◌, List, [], ◌∷◌, length, get_or, map, replicate, find, All, Some, None, Result, Ok, Err, inl, inr, refl, sym, ap, subst, ◌∙◌, arith}
 use Rattle.std.proofs.lemmas.Bool.{cases_Bool, cond-true, cond-false, ne_eqb, and_left}
 use Rattle.std.proofs.lemmas.List.{length-append}
@@ -37,7 +37,7 @@ use Rattle.round_trips.proofs.PackBytes.{AreBytes, packs_have_bytes}
 use Rattle.round_trips.proofs.SheetTracks.{sheet_has_tracks, sheet_has_no_tab}
 use Rattle.round_trips.proofs.Found.{AreMarked, marked, found_each, all_whole, all_hurt, count_good, count_bad, count_other, all_are_whole, none_is_hurt, none_is_whole, all_are_hurt}
 
--- Texts come back from copies of their packs.
+-- Texts are read back from copies of their packs.
 abbrev pub ComeBack : Type 0
 ComeBack =
     (texts : Texts) (offered : List (List ℕ)) → HasTracks texts → has_no_text texts ≡ false → HasNoTab texts
@@ -53,7 +53,7 @@ counted_same : (texts texts' : Texts) (good bad other good' bad' other' : ℕ) �
 counted_same texts texts' good bad other good' bad' other' t e f g =
     λ i. counted_lines (t i) (e i) (f i) (g i)
 
--- what is listed of packs by their marks
+-- the listing of packs, from their marks
 lines_of : (texts : Texts) (whole : List Bool) (form : Form) (lead_in : ℕ) (bytes text : List ℕ) (bad : ℕ)
     → AreMarked whole (packs_in form lead_in bytes) → texts_of_lead_in form lead_in bytes ≡ Ok texts
     → IsTextListed form lead_in bytes text bad
@@ -121,7 +121,7 @@ module _ (sheet : CueSheet) (has : HasTextPacks sheet) (some : HasText sheet) wh
     bytes = All-get_or AreBytes (text_packs sheet) n [] inside packs_are_bytes;
   }
 
-  -- each slot holds one of the packs
+  -- each slot contains one of the packs
   module _ (count : ℕ) where
     slot_is : (i : ℕ) → i < length (packs_in_slots (text_packs sheet) count)
         → get_or (packs_in_slots (text_packs sheet) count) i []
@@ -144,7 +144,7 @@ module _ (sheet : CueSheet) (has : HasTextPacks sheet) (some : HasText sheet) wh
         → is_good (get_or (packs_in_slots (text_packs sheet) count) i []) ≡ true
     slot_good i less = ap is_good (slot_is i less) ∙ pack_good (i % length (text_packs sheet)) (place_in i)
 
-    -- where there are slots enough, each pack stands in one
+    -- with enough slots, each pack is in one
     pack_stands : length (text_packs sheet) ≤ count → (n : ℕ) → n < length (text_packs sheet)
         → StandsIn (get_or (text_packs sheet) n []) (packs_in_slots (text_packs sheet) count)
     pack_stands enough n inside =
@@ -155,7 +155,7 @@ module _ (sheet : CueSheet) (has : HasTextPacks sheet) (some : HasText sheet) wh
           sym (slot_is n within ∙ ap (λ (k : ℕ). get_or (text_packs sheet) k []) (mod-eq_of_lt inside)),
         )
 
-    -- all slots are whole
+    -- all slots are intact
     pub undamaged : length (text_packs sheet) ≤ count
         → HasHurtSlots (text_packs sheet) (replicate (length (packs_in_slots (text_packs sheet) count)) true)
         (packs_in_slots (text_packs sheet) count) (packs_in_slots (text_packs sheet) count)
@@ -270,7 +270,7 @@ damaged_lines law sheet script lead_in audio bytes packs whole form changed text
     (damaged_texts law sheet script lead_in audio bytes packs whole form changed has some authored damaged)
     listed
 
--- an authored lead-in is one in which all slots are whole
+-- in an authored lead-in all slots are intact
 all_slots : ℕ → CueSheet → List Bool
 all_slots lead_in sheet = replicate (length (packs_in_slots (text_packs sheet) (4 * lead_in))) true
 

@@ -1,4 +1,4 @@
--- What a word means does not depend on its parity.
+-- The meaning of a word does not depend on its parity.
 use Rattle.std.proofs.Common.{◌≡◌, ℕ, ◌+◌, ◌*◌, ◌<◌, ◌%◌, List, length, get_or, drop, map, refl, sym, ap, ap₂, ◌∙◌, arith, lit<}
 use Rattle.std.specs.Prelude.{◌==◌, if◌then◌else◌}
 use Rattle.std.proofs.lemmas.List.{get_or-take, get_or-drop, length-take-le, length-drop}
@@ -10,7 +10,7 @@ use Rattle.cdg_instructions.specs.declared.instr.Instr.TheVariants.{Idle, Foreig
 use Rattle.cdg_instructions.proofs.Symbols.{head_of_message, body_of_message}
 use Rattle.bit_lists.specs.Counting.{below}
 
--- what a graphics word means, by its first four content symbols, all sixteen, and the colours of its table
+-- the meaning of a graphics word, from its first four content symbols, all sixteen, and the colours of its table
 graphics_of : ℕ → ℕ → ℕ → ℕ → List ℕ → List ℕ → ℕ → Instr
 graphics_of a b c d symbols table code =
     if code == 1 then MemoryPreset (a % 16) (b % 16)
@@ -31,7 +31,7 @@ graphics_is : (word : List ℕ) (code : ℕ)
 unfolding graphics_of
 graphics_is word code = refl
 
--- what a word means, by its mode and what it means as a graphics word
+-- the meaning of a word, from its mode and its meaning as a graphics word
 meaning_of : Instr → ℕ → Instr
 meaning_of drawn mode = if mode == 0 then Idle else if mode == 9 then drawn else Foreign
 

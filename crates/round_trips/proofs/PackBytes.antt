@@ -1,4 +1,4 @@
--- Packs of strings of bytes are bytes.
+-- Packs of strings of bytes consist of bytes.
 use Rattle.std.proofs.Common.{◌≡◌, ℕ, zero, suc, ◌+◌, ◌-◌, ◌*◌, ◌/◌, ◌%◌, ◌^◌, ◌<◌, ◌≤◌, false, ◌==◌, if◌then◌else◌, List, [], ◌∷◌, ◌++◌, length, get_or, map, flat_map, take, drop, replicate, All, inl, inr, sym, ap, subst, ◌∙◌, arith}
 use Rattle.std.proofs.lemmas.Bool.{cases_lt, cond_both, cond-false}
 use Rattle.std.proofs.lemmas.List.{length-append, get_or_past}
@@ -24,7 +24,7 @@ pub one_byte : (b : ℕ) (rest : List ℕ) → b < 256 → AreBytes rest → Are
 one_byte b rest small are zero d less = small
 one_byte b rest small are (suc k) d less = are k d (omega arith)
 
--- a content of bytes
+-- the content consists of bytes
 record HasBytes (c : Content) : Type 0 where
   type : c.type < 256
   track : c.track < 256
@@ -138,7 +138,7 @@ module _ (texts : Texts) (tracks : HasTracks texts)
   abbrev total : ℕ
   total = length (flat_map (kind_contents texts) kinds)
 
-  -- no kind has more packs than there are
+  -- no kind has more packs than all kinds together
   counted : (kind : TextKind) (ks : List TextKind)
       → length (flat_map (kind_contents texts) (kind ∷ ks))
       ≡ length (kind_contents texts kind) + length (flat_map (kind_contents texts) ks)

@@ -26,7 +26,7 @@ use Rattle.stream_stages.proofs.Slots.{length-all_symbols, sized_drop}
 use Rattle.stream_stages.proofs.Conversion.{length-units_of, units_sized, blocks_sized}
 use Rattle.stream_stages.proofs.Restoring.{Recovers, program_small, taken_all}
 
--- the laws that this rests on
+-- the laws that this file uses
 abbrev pub NoneBad : Type 0
 NoneBad = (packs : List (List ℕ)) → bad_count (map (λ pack. Some pack) packs) ≡ 0
 
@@ -74,7 +74,7 @@ module _ (recovers : Recovers) (form : Form) (lead_in time : ℕ) (script : List
   pub picture_bad : NoneBad → bad ≡ 0
   picture_bad none = screen.bad_is ∙ ap bad_count first_packs ∙ none (take (whole_packs time) scheduled.packs)
 
--- how many program symbols some bytes have
+-- the number of program symbols in some bytes
 program_length : (form : Form) (bytes : List ℕ) (lead_in : ℕ)
     → length (program_symbols form bytes lead_in) ≡ 96 * (length bytes / unit_size form - lead_in)
 program_length form bytes lead_in =

@@ -31,7 +31,7 @@ use Rattle.round_trips.specs.Damaged.{DamagedPress, IsFileText}
 use Rattle.round_trips.proofs.Meanings.{same_meaning}
 use Rattle.round_trips.proofs.Standings.{idle_around, InTurn}
 
--- what a law of the layer below says
+-- a law of the crate below
 abbrev pub OneMeaning : Type 0
 OneMeaning = (word : List ℕ) (instr : Instr) → Means word instr → instr ≡ meaning word
 
@@ -69,11 +69,11 @@ count_of_file : (file : List ℕ) → length (file_packs file) ≡ length file /
 count_of_file file =
     length-map (parts (length file / 24) 24 file) symbols_of ∙ length-parts (length file / 24) file
 
--- what stands after the first packs of a file, so many or all of them, as a function
+-- the standing after the first packs of a file
 abbrev file_standing : List ℕ → ℕ → Standing
 file_standing file many = standing_after blank (map meaning (take many (file_packs file)))
 
--- the instructions of packs are what their symbols mean
+-- the meanings of the symbols of packs are their instructions
 meanings_are : (many : ℕ) (packs : List (List ℕ))
     → map meaning (take many (map symbols_of packs)) ≡ instructions_of (take many packs)
 unfolding pack_instruction
@@ -101,7 +101,7 @@ file_read file many =
     (take-map pack_instruction many packs ∙ sym (meanings_are many packs))
     (first_read many packs (instructions_of packs) all)
 
--- packs that are those of a file made good, and idle ones after them
+-- the first packs are packs of a file with computed parity, and the others are idle
 record AreOfFile (files packs : List (List ℕ)) : Type 0 where
   good : (k : ℕ) → k < length files → k < length packs → IsMadeGood (get_or files k []) (get_or packs k [])
   idle : (k : ℕ) → length files ≤ k → k < length packs → get_or packs k [] ≡ idle_pack
@@ -182,7 +182,7 @@ module _ (sheet : CueSheet) (file : List ℕ) (lead_in audio : ℕ) (bytes : Lis
         ∙ ap (λ n. map meaning (take n (file_packs file))
         ++ replicate (of_file_means (file_packs file) within within_of_file).0 Idle) within_count)
 
-    -- what stands is what stands after the packs of the file
+    -- the standing is the standing after the packs of the file
     pub same_standing : InTurn → (instrs : List Instr)
         → instrs ≡ map meaning (take (whole_packs (pause_blocks + time)) packs)
         → standing_after blank instrs ≡ file_standing file (4 * time)

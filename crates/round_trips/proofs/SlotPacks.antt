@@ -57,7 +57,7 @@ module _ (packs : List (List ℕ)) (are : (n : ℕ) → n < length packs → IsP
         ∙ sym (cond-false (length packs == 0) (replicate 18 0) (get_or packs (j % length packs) []) some)
   ]
 
-  -- the packs of a block with the symbols of four slots
+  -- the packs of a block that has the symbols of four slots
   module _ (block : List ℕ) (l : ℕ) (symbols : symbols_of block ≡ lead_in_symbols packs l) where
     abbrev slot : ℕ → List ℕ
     slot k = lead_in_slot packs (4 * l + k)

@@ -1,4 +1,4 @@
--- What stands does not depend on idle packs.
+-- The standing does not depend on idle packs.
 use Rattle.std.proofs.Common.{◌≡◌, ℕ, zero, suc, List, ◌++◌, replicate, refl, ap, ◌∙◌}
 use Rattle.std.specs.List.{AllByRecursion}
 use Rattle.cdg_instructions.specs.declared.instr.Instr.{Instr}
@@ -6,7 +6,7 @@ use Rattle.cdg_instructions.specs.declared.instr.Instr.TheVariants.{Idle}
 use Rattle.cdg_screen.specs.Standing.{Standing, blank, standing_after}
 use Rattle.cdg_screen.proofs.Turns.{blank_is_whole, idle_changes_nothing, whole_after}
 
--- what the law of the screen says
+-- the law of the screen
 abbrev pub InTurn : Type 0
 InTurn = (start : Standing) (early late : List Instr)
     → standing_after start (early ++ late) ≡ standing_after (standing_after start early) late
@@ -15,7 +15,7 @@ all_idle : (n : ℕ) → AllByRecursion (λ (i : Instr). i ≡ Idle) (replicate 
 all_idle zero = tt
 all_idle (suc n) = (refl, all_idle n)
 
--- before and after other instructions
+-- idle packs before and after other instructions
 pub idle_around : InTurn → (before after : ℕ) (instrs : List Instr)
     → standing_after blank (replicate before Idle ++ (instrs ++ replicate after Idle))
     ≡ standing_after blank instrs

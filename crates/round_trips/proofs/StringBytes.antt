@@ -1,4 +1,4 @@
--- The strings of a sheet whose texts are bytes are bytes.
+-- If the texts of a sheet are bytes, so are its strings.
 use Rattle.std.proofs.Common.{◌≡◌, ◌≢◌, ℕ, ◌+◌, ◌-◌, ◌<◌, ◌≤◌, Bool, true, ◌&&◌, ◌==◌, List, [], ◌∷◌, ◌++◌, length, take, drop, replicate, unwrap_or, Option, Some, None, All, IsTrue, inl, inr, refl, sym, ap, subst, ◌∙◌, arith}
 use Rattle.std.specs.List.{list_all}
 use Rattle.std.specs.Char.{is_ascii_digit, is_ascii_uppercase}
@@ -18,7 +18,7 @@ use Rattle.cue_sheet.specs.SheetBytes.{HasByteTexts}
 use Rattle.round_trips.proofs.PackBytes.{AreBytes, no_bytes, one_byte}
 use Rattle.round_trips.proofs.SheetTracks.{for_all}
 
--- bytes of which a test passes that only bytes pass
+-- if a test passes only bytes, a string that passes it consists of bytes
 passing : (p : ℕ → Bool) → ((b : ℕ) → p b ≡ true → b < 256) → (s : List ℕ) → list_all p s ≡ true → AreBytes s
 passing p small [] all = no_bytes
 passing p small (b ∷ s) all = let parts = and_parts (p b) (list_all p s) all in

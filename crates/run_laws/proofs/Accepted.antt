@@ -1,4 +1,4 @@
--- Where all is accepted a stream is written.
+-- If everything is accepted, a stream is written.
 use Rattle.std.proofs.Common.{◌≡◌, ℕ, List, Ok, Some, None, IfSome, ◌⊎◌, inl, inr}
 use Rattle.cue_sheet.specs.CueSheet.{CueSheet}
 use Rattle.picture_script.specs.Script.{Drawing}
@@ -16,7 +16,7 @@ use Rattle.cdg_cmd.specs.declared.status.Status.TheVariants.{Done, Damaged, Usag
 use Rattle.run_laws.specs.Refused.{Writes}
 
 module _ (sheet : CueSheet) (script : List Drawing) (lead_in audio : ℕ) (out : Change Bytes) where
-  -- where all is accepted no picture is late
+  -- if everything is accepted, no picture is late
   module _ (accepted : IsAccepted sheet script lead_in audio) (Pixels : Type 0)
       (pixels : (text : List ℕ) → read_script text ≡ Ok script → Pixels)
       (not_both : Pixels → (why : AuthorStop) → IsAuthorStop sheet script lead_in audio why

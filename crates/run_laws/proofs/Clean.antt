@@ -1,4 +1,4 @@
--- What calls of a player give of a whole input whose text is known.
+-- The output of calls of a player, for a whole input whose text is known.
 use Rattle.std.proofs.Common.{◌≡◌, ◌<◌, ℕ, ◌/◌, List, length, map, Result, Ok, Err, Some, None, IfSome, ◌==◌, if◌then◌else◌, sym, ap, subst, ◌∙◌, arith}
 use Rattle.std.specs.declared.option.Option.{Option}
 use Rattle.std.specs.List.{concat}
@@ -28,7 +28,7 @@ use Rattle.run_laws.specs.Undamaged.{IsCleanStream, form_words}
 use Rattle.cdg_cmd.specs.declared.status.Status.{Status}
 use Rattle.cdg_cmd.specs.declared.status.Status.TheVariants.{Done, Damaged}
 
--- what a call did with all of its input: it played it and put a text
+-- the call played its whole input and wrote a text
 abbrev IsGiven : (List ℕ → List ℕ → ℕ → Type 0) → Form → ℕ → Change Bytes → Played → List ℕ → Type 0
 IsGiven writes form lead_in out played bytes = (text : List ℕ)
     × IsPlayed writes (blocks_played form lead_in) bytes played text
@@ -64,7 +64,7 @@ module _ (writes : List ℕ → List ℕ → ℕ → Type 0) (form : Form) (lead
   in_turn_given (Err (play.PastEnd blocks)) plays exactly input known = absurd exactly
   in_turn_given (Err (play.Text why)) plays exactly input known = absurd exactly
 
--- the words of a clean stream are what a conversion writes
+-- a conversion writes the words of a clean stream
 clean_text : (form : Form) (symbols : List ℕ) (found : List (Option (List ℕ))) (text : List ℕ) (bad : ℕ)
     → found ≡ map (λ n. Some (form_word form symbols n)) (below (word_count form (length symbols / 96)))
     → ((packs : List (List ℕ)) → cdg_bytes (map (λ pack. Some pack) packs) ≡ concat packs)
@@ -79,7 +79,7 @@ clean_text form symbols found text bad all written none text_is bad_is =
       bad_is ∙ ap bad_count words ∙ none (form_words form symbols),
     )
 
--- what is recovered of a clean stream
+-- the words that are recovered from a clean stream
 abbrev pub FindsWords : Form → List ℕ → Type 0
 FindsWords form symbols = (found : List (Option (List ℕ)))
     → ((n : ℕ) → n < word_count form (length symbols / 96) → IsCodeword (form_word form symbols n))

@@ -1,4 +1,4 @@
--- The checkpoint of a player that was fed a stream is that of the stream.
+-- A player that was fed a stream has the checkpoint of the stream.
 use Rattle.std.proofs.Common.{◌≡◌, ℕ, ◌-◌, ◌*◌, ◌^◌, ◌/◌, ◌≤◌, List, [], ◌∷◌, length, get_or, map, drop, refl, sym, ap, ap₂, ◌∙◌, subst, arith, None, Some, length-drop}
 use Rattle.std.specs.Prelude.{Option, min, is_none}
 use Rattle.std.specs.List.{flat_map}
@@ -137,7 +137,7 @@ module _ (lead_in : ℕ) (given : List Given) (bytes : List ℕ) (first : IsFirs
         few,
       )
 
-  -- ---- a player that was fed them
+  -- ---- a player that was fed these blocks
 
   module _ (saved : LivePlayer) (played : HasPlayed Raw lead_in given saved) where
     view : IsLiveView Raw lead_in blocks (standing_on saved)
@@ -186,7 +186,7 @@ module _ (lead_in : ℕ) (given : List Given) (bytes : List ℕ) (first : IsFirs
       text_is = refl;
     }
 
-  -- ---- a player that goes to their checkpoint
+  -- ---- a player that is restored from their checkpoint
 
   abbrev ideal : LivePlayer
   ideal = record {

@@ -1,4 +1,4 @@
--- Screens that are kept with their rows from the top left.
+-- Screens whose rows are stored from the top left.
 use Rattle.std.proofs.Common.{◌≡◌, ℕ, List, ap, ap₂, ◌∙◌, arith}
 use Rattle.cdg_screen.specs.Memory.{Kept, MemoryRows, at, seen}
 use Rattle.cdg_screen.specs.Standing.{IsWholeStanding, Standing, pixel_at}
@@ -13,7 +13,7 @@ unfolding pixel_at
 same_pixels rows x y x_lt y_lt =
     at_is rows 0 0 x y ∙ ap₂ (λ r k. element rows r k) (omega arith) (omega arith)
 
--- what is kept so that this stands
+-- the stored screen with this standing
 abbrev pub held : Standing → Kept
 held now = record {
   memory = from_top_left now.memory;

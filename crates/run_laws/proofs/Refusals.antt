@@ -1,4 +1,4 @@
--- Each refusal of `author` is the answer where its reason is the first that holds.
+-- `author` answers with the first reason of a refusal that holds.
 use Rattle.std.proofs.Common.{◌≡◌, ◌≢◌, ◌⊎◌, ℕ, List, [], Result, Ok, Err, Some, None, IfSome, refl, sym, ap, subst, ◌∙◌, inl, inr}
 use Rattle.std.specs.Io.KnownBytes.{Appends}
 use Rattle.cue_sheet.specs.CueSheet.{CueSheet}
@@ -20,7 +20,7 @@ use Rattle.cdg_cmd.proofs.FirstHalf.{put_for_texts}
 use Rattle.cdg_cmd.proofs.TextStops.{no_script_stop, no_sheet_stop, one_script_stop, one_sheet_stop, script_status, script_stopped, sheet_status, sheet_stopped}
 
 module _ (lead_in audio : ℕ) (out : Change Bytes) where
-  -- where memory may be wanting
+  -- memory may be missing
   with_memory : (why status : Status) → (status ≡ NoMemory → Appends out.before out.after [])
       → (status ≢ NoMemory → RefusesWith why out status)
       → RefusesWith why out status

@@ -1,4 +1,4 @@
--- What `save` writes of a stream that is not too long.
+-- The output of `save` for a stream that is not too long.
 use Rattle.std.proofs.Common.{◌≡◌, ◌==◌, ℕ, ◌*◌, ◌/◌, ◌%◌, ◌≤◌, Bool, true, false, List, [], length, refl, sym, ap₂, subst, arith, append-nil, None, Some, Result, Ok, Err, if◌then◌else◌}
 use Rattle.std.specs.Prelude.{nat_lt}
 use Rattle.std.proofs.lemmas.Bool.Decides.{nat_tests}
@@ -58,7 +58,7 @@ in_limit a b few = grind (arith, nat_tests)
 no_rest : (n : ℕ) → n ≡ 0 → (n == 0) ≡ true
 no_rest n none = grind (arith, nat_tests)
 
--- the answer by two tests
+-- the answer, from two tests
 abbrev answer_by : Bool → Bool → ℕ → Result Pumped PumpStop
 answer_by over whole n =
     if over then Err pump.TooLong else if whole then Ok (record { units = n }) else Err (pump.Torn n)

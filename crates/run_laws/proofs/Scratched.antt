@@ -1,4 +1,4 @@
--- Packs come back from scratches.
+-- Packs are recovered from scratched streams.
 use Rattle.std.proofs.Common.{◌≡◌, ℕ, List, Some, None, IfSome, sym, subst}
 use Rattle.std.specs.List.{concat}
 use Rattle.raw_subcode.specs.declared.form.Form.TheVariants.{Raw}
@@ -9,7 +9,7 @@ use Rattle.cdg_cmd.specs.Answer.{GivesBack}
 use Rattle.cdg_io.specs.Change.{Bytes, Change}
 use Rattle.cdg_cmd.specs.declared.status.Status.{Status}
 
--- packs come back from scratches
+-- a conversion writes the packs that were sent, in spite of scratches
 pub scratched_back : (lead_in blocks seed : ℕ) (bytes : List ℕ) (packs : List (List ℕ)) (left : Bytes)
     (out : Change Bytes) (status : Status)
     → IsDamagedStream Raw lead_in blocks packs (scratched lead_in seed bytes)

@@ -1,4 +1,4 @@
--- Which statuses tell a fault of the second input.
+-- The statuses that report a fault of the second input.
 use Rattle.std.proofs.Common.{◌≡◌, ◌≢◌, ◌==◌, ℕ, Bool, true, false, Result, Ok, Err, refl, sym, subst, ◌∙◌, if◌then◌else◌, arith}
 use Rattle.cdg_io.specs.declared.pumping.Pumped.{Pumped}
 use Rattle.cdg_io.specs.declared.pumping.PumpStop.{PumpStop}
@@ -95,7 +95,7 @@ thinned (Err pump.WriteFault) e = absurd (cc)
 thinned (Err (pump.Torn unit)) e = absurd (cc)
 thinned (Err pump.TooLong) e = absurd (cc)
 
--- only a fault of the second input is told so
+-- only a fault of the second input has this status
 resumed : (answer : Result Resumed ResumeStop) → resume_status answer ≡ ReadFault Second
     → answer ≡ Err resume.SecondFault
 resumed (Ok done) e = absurd (whole (done.bad == 0) done.bad e)
@@ -124,7 +124,7 @@ of_resume at call d =
       },
     )
 
--- what a command did, if it ends so
+-- a command that ends with this status read its second input
 pub read_first : (command : Command) (call : Call Bytes) → Does command call (ReadFault Second)
     → ReadsSecond command call.first
 read_first (Convert lead_in form) call d = played d.answer (sym d.status_is)

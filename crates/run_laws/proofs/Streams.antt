@@ -15,7 +15,7 @@ use Rattle.stream_stages.specs.Convert.{IsDamagedStream}
 whole_blocks : (n size : ℕ) → size ≡ 96 * n → size % 96 ≡ 0
 whole_blocks n size is = omega (arith, is)
 
--- what is known of scratched streams
+-- the facts about a scratched stream
 pub record ScratchesAreKnown (lead_in seed : ℕ) (bytes : List ℕ) : Type 0 where
   pub size : length (scratched lead_in seed bytes) ≡ length bytes
   pub damaged : IsDamaged (program_symbols Raw bytes lead_in) Raw

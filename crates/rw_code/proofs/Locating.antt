@@ -95,7 +95,7 @@ constant_is s t s0 s1 s2 s3 is =
 
 -- ---- The factor of the polynomial is not 0.
 
--- what is left of the sum at 1 without the error by one power
+-- the sum at 1 without the share of the error that has the power p
 pub without : (p q e f : ℕ)
     → bit_xor (bit_xor (product p e) (product q f)) (product p (bit_xor e f)) ≡ product (bit_xor p q) f
 without p q e f =
@@ -262,7 +262,7 @@ two_locator lanes i e j f sums locator are is wrong =
 abbrev ratio : ℕ → ℕ → ℕ
 ratio d z = (d + 126 - 2 * z) % 63
 
--- Where the power z is the sum of the power suc d and 1, the tables have both at their ratio.
+-- If the power z is the sum of the power suc d and 1, both tables have this pair at their ratio.
 IsPairEntry : ℕ → ℕ → Bool
 IsPairEntry d z =
     if times_power z 1 == bit_xor (times_power (suc d) 1) 1
@@ -313,7 +313,7 @@ bounds_at at lt =
     (all_below-at IsBounded 63 at test_bounds lt) in
     (ltb-true _ _ both.0, ltb-true _ _ both.1)
 
--- each difference has its pair
+-- each difference of positions has its pair
 is_pair : (d : ℕ) → 0 < d → d < 24 → (z : ℕ) × IsPair d z
 unfolding alpha_power
 is_pair d positive lt =
@@ -393,7 +393,7 @@ low_of : (j la lb z : ℕ) → j < 24 → la < 63 → z < 63 → lb ≡ (z + (23
     → (lb + 126 - la - z) % 63 ≡ 23 - j
 low_of j la lb z lt la_lt z_lt lb_is = omega arith
 
--- What the code makes of the logarithms, where the tables tell a difference and a sum.
+-- The positions that the code computes from the logarithms, with the tables of differences and sums.
 pub places_of : (locator : Locator) (i j la lb lc found_d found_z : ℕ) → i < j → j < 24
     → IsLocatorOf locator i j → la < 63 → lb < 63 → lc < 63
     → alpha_power la ≡ locator.square → alpha_power lb ≡ locator.linear → alpha_power lc ≡ locator.constant
@@ -478,7 +478,7 @@ first_not_zero i s0 s1 is first none =
     is.wrong (product_cancel (alpha_power (23 - i)) s0 (alpha_power-lt _) is.below (power_not_zero (23 - i))
     (first ∙ none))
 
--- the first sum of one error
+-- the first two sums of a word with one error
 pub one_sum : (lanes i e : ℕ) (sums : Sums) → AreLanes lanes sums → IsOneWrong lanes i e
     → (sums.zeroth ≡ e) × (product (alpha_power (23 - i)) sums.zeroth ≡ sums.first)
 one_sum lanes i e sums are wrong =
@@ -489,7 +489,7 @@ one_sum lanes i e sums are wrong =
           ∙ sym (are.first ∙ wrong.entry.whole 1 (lit< tt) ∙ once (23 - i) e below),
     )
 
--- the parts of two errors, where they are those that are found
+-- the shares of two errors, if they are the errors that the code found
 pub two_entries : (lanes i e j f : ℕ) (places : Places) (errors : TwoErrors) (p q : ℕ)
     → AreTwoWrong lanes i e j f → places.first ≡ i → places.second ≡ j
     → errors

@@ -1,4 +1,4 @@
--- How the six sums come from the table, in lanes of one number.
+-- The six sums from the table, in lanes of one number.
 use Rattle.std.proofs.Common.{◌≡◌, ℕ, zero, suc, ◌+◌, ◌-◌, ◌*◌, ◌/◌, ◌%◌, ◌^◌, ◌<◌, Bool, true, ◌&&◌, ◌==◌, nat_lt, if◌then◌else◌, List, [], length, get_or, take, drop, bit_xor, refl, sym, ap, ap₂, ◌∙◌, subst, inl, inr, lit<, mod-lt, length-drop, arith}
 use Rattle.std.proofs.Math.Nat.{zero-div}
 use Rattle.std.proofs.lemmas.Bool.{and_parts, eqb-true, ltb-true, cases_lt, lt-ltb, le-ltb}
@@ -44,7 +44,7 @@ small_exponent (suc (suc j)) position lt = absurd (omega arith)
 pub four_size : (word : List ℕ) → length word ≡ 24 → length (take 4 word) ≡ 4
 four_size word size = length-take 4 word ∙ omega (arith, size)
 
--- the part of a symbol at a position, as the table has it
+-- the entry of the table for a symbol at a position
 pub entry_is : (position symbol found : ℕ) → position < 24 → symbol < 64
     → found ≡ get_or (get_or SYNDROMES position []) symbol 0
     → IsEntry position symbol found
@@ -108,7 +108,7 @@ all_zero lanes bound none =
     let below : lanes < 68719476736 = bound in
     omega arith
 
--- there is only one such part
+-- a symbol at a position has only one entry
 pub only_entry : (position symbol one other : ℕ) → IsEntry position symbol one → IsEntry position symbol other
     → one ≡ other
 only_entry position symbol one other one_is other_is =
@@ -132,7 +132,7 @@ only_entry position symbol one other one_is other_is =
 
 -- ---- One pass over a word.
 
--- the lanes after the symbols before place i: with the sums of the others they make the sums of the word
+-- the lanes of the symbols before place i: together with the sums of the others, they are the sums of the word
 pub record IsPart (word : List ℕ) (i lanes : ℕ) : Type 0 where
   pub whole : (j : ℕ) → j < 4 → bit_xor (lane j lanes) (weighted_sum j (drop i word)) ≡ weighted_sum j word
   pub first_four : (j : ℕ) → j < 2

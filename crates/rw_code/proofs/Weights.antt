@@ -1,4 +1,4 @@
--- How many symbols are not 0, by eights.
+-- The number of symbols that are not 0, counted in groups of eight.
 use Rattle.std.proofs.Common.{ne_eqb, ap₂, take, drop, append-nil, append_assoc, length-append, length-take-le, Fits, ◌≡◌, ℕ, zero, suc, ◌+◌, ◌≤◌, ◌-◌, ◌^◌, cond, List, [], ◌∷◌, ◌++◌, length, map, min, refl, sym, ap, ◌∙◌, arith}
 use Rattle.std.specs.Prelude.{replicate}
 use Rattle.std.specs.Simd.Lanes.{sum_l, sel_l, zip2, top, fold_l, Each2, Steps}
@@ -10,11 +10,11 @@ use Rattle.std.proofs.lemmas.List.{length-drop, length-map, take_all, take-appen
 use borrow.Rule.Slice.PartMut.{put_mid}
 use Rattle.rw_code.specs.Codeword.{differences}
 
--- a 1 for each symbol that is not 0
+-- 1 for each symbol that is not 0
 abbrev pub ones_of : List ℕ → List ℕ
 ones_of symbols = map (λ symbol. min symbol 1) symbols
 
--- how many are not 0
+-- the number of symbols that are not 0
 abbrev pub weight_of : List ℕ → ℕ
 weight_of symbols = sum_l (ones_of symbols)
 
@@ -41,7 +41,7 @@ chosen (zero ∷ xs) = ap (λ l. 0 ∷ l) (chosen xs)
 chosen (suc x ∷ xs) = let one : cond (ltb (suc x) 1) (suc x) 1 ≡ min (suc x) 1 = grind (arith, nat_tests) in
     ap₂ (λ (n : ℕ) l. n ∷ l) one (chosen xs)
 
--- a 1 for each, as the lanes of a vector are compared with ones
+-- 1 for each symbol that is not 0, by comparing the lanes of a vector with ones
 pub lanes_at_most_one : (xs : List ℕ)
     → sel_l (map (top 7) (zip2 (λ a b. cond (ltb a b) (2 ^ 8 - 1) 0) xs (replicate (length xs) 1))) xs
     (replicate (length xs) 1)
@@ -50,7 +50,7 @@ lanes_at_most_one xs =
     ap (λ ms. sel_l ms xs (replicate (length xs) 1)) (tops_compared w8 ltb xs (replicate (length xs) 1))
     ∙ chosen xs
 
--- ---- Eights that are put one behind the other.
+-- ---- Groups of eight, one behind another.
 
 three_eights : (zeros one two three low middle high : List ℕ) → length zeros ≡ 24 → length low ≡ 8
     → length middle ≡ 8 → length high ≡ 8
@@ -99,7 +99,7 @@ eights_room one two one_size two_size =
       size,
     )
 
--- three pieces of eight, each copied behind the one before
+-- three pieces of eight symbols, each copied behind the one before
 pub eights_put : (low middle high one two three : List ℕ) → length low ≡ 8 → length middle ≡ 8
     → length high ≡ 8 → one ≡ low → two ≡ middle → three ≡ high
     → put_mid 16 8 (put_mid 8 8 (one ++ replicate 16 0) two) three ≡ low ++ middle ++ high
@@ -114,16 +114,16 @@ eights_put low middle high one two three low_size middle_size high_size first se
     (ap₂ (λ x y. take 16 more ++ (x ++ y)) third (drop-drop 8 16 more)
     ∙ sym (append_assoc (take 16 more) high (drop 24 more)))
 
--- ---- The weight of a word by its eights.
+-- ---- The weight of a word, from its groups of eight.
 
--- what is known of the ones of eight symbols
+-- the ones of eight symbols are few
 ones_small : (ones part : List ℕ) → ones ≡ ones_of part → length part ≡ 8
     → (sum_l ones ≤ 8) × (length ones ≡ 8)
 ones_small ones part is size =
     let weight = weight-bound part in
     (omega (arith, ap sum_l is, weight, size), ap length is ∙ length-map part (λ symbol. min symbol 1) ∙ size)
 
--- Eights of 24 symbols, and the ones of each.
+-- The ones of the three groups of eight in 24 symbols.
 pub record AreOnes (symbols low middle high : List ℕ) : Type 0 where
   pub size : length symbols ≡ 24
   pub first : low ≡ ones_of (take 8 symbols)

@@ -1,4 +1,4 @@
--- Symbols that differ in bursts differ in at most two symbols of a word.
+-- Symbols that are changed in bursts differ in at most two symbols of each word.
 use Rattle.std.proofs.Common.{◌≡◌, ◌≢◌, ℕ, zero, suc, ◌+◌, ◌*◌, ◌/◌, ◌%◌, ◌<◌, ◌≤◌, nat_lt, nat_le, ◌&&◌, ◌||◌, not, inl, inr, Bool, true, false, cond, List, [], ◌∷◌, length, get_or, map, refl, sym, ap, ap₂, ◌∙◌, subst, arith}
 use Rattle.std.specs.List.{list_any, list_all, range_with_len}
 use Rattle.std.proofs.lemmas.Bool.Decides.{eqb_tells, leb_tells}
@@ -39,7 +39,7 @@ is_lt a b lt =
 both : (a b : Bool) → a ≡ true → b ≡ true → (a && b) ≡ true
 both a b left right = ap₂ (λ x y. x && y) left right
 
--- a test of all numbers in a row, at one of them
+-- a test that all of some numbers pass, at one of them
 at_each : (p : ℕ → Bool) (a n : ℕ) → list_all p (range_with_len a n) ≡ true → (k : ℕ) → a ≤ k → k < a + n
     → p k ≡ true
 at_each p a zero e k from to = absurd (omega (arith, from, to))
@@ -57,7 +57,7 @@ in_burst p burst inside =
     let tests = and_both (nat_le burst.0 p) (nat_lt p (burst.0 + burst.1)) inside in
     (le_of burst.0 p tests.0, lt_of p (burst.0 + burst.1) tests.1)
 
--- a place in one of the bursts comes at the first or later
+-- a place in one of the bursts is not before the first burst
 begins : (from : ℕ) (bursts : List (ℕ × ℕ)) (p : ℕ) → AreBurstsFrom from bursts
     → list_any (is_in_burst p) bursts ≡ true
     → from ≤ p
@@ -85,7 +85,7 @@ close from (burst ∷ rest) p q apart p_in q_in before near =
 
 -- ---- three places of a word are not all near each other
 
--- the place of a symbol, counted from the pack's slot
+-- the place of a symbol, counted from the slot of its pack
 abbrev offset : ℕ → ℕ
 offset i = 24 * (swapped i % 8) + swapped i
 
@@ -129,7 +129,7 @@ swapped-lt i lt = grind arith
 
 -- ---- positions at which two lists differ
 
--- n positions in a row of ascending ones, from a on and below b
+-- n increasing positions from a on and below b, at which f and g differ
 abbrev Differ : (ℕ → ℕ) → (ℕ → ℕ) → ℕ → ℕ → ℕ → Type 0
 Differ f g zero a b = Unit {0}
 Differ f g (suc n) a b = (i : ℕ) × (a ≤ i) × (i < b) × (f i ≢ g i) × Differ f g n (i + 1) b

@@ -1,4 +1,4 @@
--- Lists of 24 symbols that are filled by every eighth position at a time.
+-- Lists of 24 symbols that are filled with every eighth position at a time.
 use Rattle.std.proofs.Common.{◌≡◌, ◌≢◌, ℕ, ◌+◌, ◌%◌, ◌<◌, List, length, map, set, get_or, inl, inr, refl, sym, ap, ◌∙◌, subst, arith, length-set}
 use Rattle.std.proofs.lemmas.Bool.{cases_eq}
 use Rattle.std.proofs.lemmas.Grind.{same_number_lists}
@@ -8,7 +8,7 @@ use Rattle.std.specs.List.{range_with_len}
 use Rattle.rw_interleave.specs.Interleave.{swapped}
 use Rattle.rw_interleave.proofs.Places.{swapped-lt}
 
--- an exchange of places below 24: twice it is nothing
+-- an exchange of places below 24: made twice, it changes nothing
 pub record IsExchange (at : ℕ → ℕ) : Type 0 where
   pub within : (p : ℕ) → p < 24 → at p < 24
   pub twice : (p : ℕ) → p < 24 → at (at p) ≡ p
@@ -32,11 +32,11 @@ swapped_exchange = record {
 apart : (at : ℕ → ℕ) (p q : ℕ) → IsExchange at → p < 24 → q < 24 → p ≢ q → at p ≢ at q
 apart at p q exchange lp lq other same = other (sym (exchange.twice p lp) ∙ ap at same ∙ exchange.twice q lq)
 
--- the symbols at the positions of the first k eighths stand at their places
+-- the symbols whose positions have a remainder below k (modulo 8) are at their places
 abbrev pub HasEighths : (ℕ → ℕ) → (ℕ → ℕ) → List ℕ → ℕ → Type 0
 HasEighths at f bytes k = (p : ℕ) → p < 24 → p % 8 < k → get_or bytes (at p) 0 % 64 ≡ f p
 
--- one symbol is put: it stands, and the others stay
+-- a symbol that is put is there, and the others are unchanged
 put_here : (at : ℕ → ℕ) (bytes : List ℕ) (p x : ℕ) → IsExchange at → p < 24 → length bytes ≡ 24
     → get_or (set bytes (at p) x) (at p) 0 ≡ x
 put_here at bytes p x exchange lt size =
@@ -47,7 +47,7 @@ put_other : (at : ℕ → ℕ) (bytes : List ℕ) (p q x : ℕ) → IsExchange a
 put_other at bytes p q x exchange lp lq other =
     get_or-set_other bytes (at q) (at p) x 0 (apart at p q exchange lp lq other)
 
--- three more symbols
+-- three more symbols are put
 pub eighth_more : (at f value : ℕ → ℕ) (old one two three : List ℕ) (k : ℕ) → IsExchange at → k < 8
     → length old ≡ 24 → HasEighths at f old k
     → ((p : ℕ) → p < 24 → p % 8 ≡ k → value p % 64 ≡ f p)
@@ -96,7 +96,7 @@ eighth_more at f value old one two three k exchange lt size before now one_is tw
           ]
     ]
 
--- all symbols
+-- all symbols are at their places
 pub eighths_all : (at f : ℕ → ℕ) (bytes : List ℕ) → IsExchange at → length bytes ≡ 24
     → HasEighths at f bytes 8
     → map (λ (b : ℕ). b % 64) bytes ≡ map (λ i. f (at i)) (range_with_len 0 24)

@@ -1,4 +1,4 @@
--- Words by vectors of sixteen lanes: their lanes one by one.
+-- Words as vectors of sixteen lanes, lane by lane.
 use Rattle.std.proofs.Common.{◌≡◌, ℕ, ◌+◌, ◌-◌, ◌*◌, ◌/◌, ◌%◌, ◌<◌, ◌≤◌, ◌==◌, List, [], ◌∷◌, ◌++◌, length, get_or, map, min, take, drop, inl, inr, refl, sym, ap, ap₂, ◌∙◌, arith}
 use Rattle.std.specs.Prelude.{if◌then◌else◌, slice_index}
 use Rattle.std.specs.List.{range_with_len}
@@ -44,7 +44,7 @@ twos_shuffled even odd size size' =
     both_by_lanes 16 even odd (λ v w. map (λ k. get_or (v ++ w) k 0)
     (0 ∷ 1 ∷ 18 ∷ 19 ∷ 4 ∷ 5 ∷ 22 ∷ 23 ∷ 8 ∷ 9 ∷ 26 ∷ 27 ∷ 12 ∷ 13 ∷ 30 ∷ 31 ∷ [])) size size'
 
--- four bytes of what follows a place of a list
+-- four bytes from a place of a part are four bytes of its row
 pub four_of : (part row : List ℕ) (at from n : ℕ) → at + n ≤ length part → 4 ≤ n
     → ((k : ℕ) → k < 4 → slice_index row (from + k) ≡ slice_index part (at + k))
     → chunk 0 4 (take n (drop at part)) ≡ four_in row from
@@ -61,7 +61,7 @@ four_of part row at from n fits most same =
     ∙ ap (slice_index part) place
     ∙ sym (same i (omega (arith, lt))))
 
--- four bytes, each at the next place of the next slot, by the slots
+-- four bytes, each at the next position of the next slot
 pub sloping_by : (b : List ℕ) (at : ℕ)
     → slice_index b (at + 0) ∷ slice_index b (at + 24 + 1) ∷ slice_index b (at + 48 + 2)
     ∷ slice_index b (at + 72 + 3) ∷ []
@@ -73,7 +73,7 @@ sloping_by b at =
     λ i. slice_index b (at + 0) ∷ slice_index b (first i) ∷ slice_index b (second i)
     ∷ slice_index b (third i) ∷ []
 
--- the word of the symbols at positions 0 to 7 and 16 to 23 of its slots, and those between
+-- a word from its symbols at positions 0 to 7 and 16 to 23 of its slots, and from its other symbols
 abbrev pub word_of_lanes : List ℕ → List ℕ → List ℕ
 word_of_lanes outer middle =
     map (λ i. slice_index (take 8 outer ++ (take 8 middle ++ drop 8 outer)) (swapped i) % 64) (below 24)
@@ -119,7 +119,7 @@ lanes_exchanged outer middle size size' =
     both_by_lanes 16 outer middle (λ v w. map (λ (x : ℕ). x % 64) (exchanged_lanes v w)) size size'
     ∙ sym (both_by_lanes 16 outer middle word_of_lanes size size')
 
--- the symbols of a word that stand at positions 0 to 7 and 16 to 23 of its slots
+-- the symbols of a word at positions 0 to 7 and 16 to 23 of its slots
 abbrev pub outer_in : List ℕ → ℕ → List ℕ
 outer_in b at = sloping_in b at ++ (sloping_in b (at + 100)
     ++ (sloping_in b (at + 16) ++ sloping_in b (at + 116)))
@@ -153,7 +153,7 @@ word_is b j = λ i. symbol_is b j 0 0 (24 * j + 0) refl (omega arith) (omega ari
     ∷ symbol_is b j 22 22 ((24 * j + 116) + 50) refl (omega arith) (omega arith) i
     ∷ symbol_is b j 23 3 (24 * j + 75) refl (omega arith) (omega arith) i ∷ []
 
--- ---- A block whose bytes are taken for its symbols.
+-- ---- A block whose bytes are used as its symbols.
 
 raw_same : (early late block symbols : List ℕ) → length early ≡ 72 → length late ≡ 96
     → ((n : ℕ) → n < 96 → slice_index symbols n ≡ slice_index block n % 64) → (n : ℕ) → n < 264
@@ -182,9 +182,9 @@ raw_same early late block symbols early_size late_size low n within =
           ∙ sym (ap (λ x. x % 64) there')
     ]
 
--- ---- The words of a block of which eight slots have come.
+-- ---- The words that end with a block, in a window with `count` slots.
 
--- one slot more
+-- one more slot
 whole_more : (b : List ℕ) (count j : ℕ) (words : List (List ℕ)) → count ≤ 7 → length words ≡ j
     → drop (7 - count) words ≡ run_gives gather_next gather_gives (start b count) (slots_in b 7 j)
     → drop (7 - count) (words ++ gathered (slots_in b j 8) ∷ [])
@@ -203,7 +203,7 @@ whole_more b count j words few size done =
           (drop-append-le (7 - count) words (word ∷ []) (omega (arith, size, full)))
     ]
 
--- the four words behind seven slots, without those that lack slots
+-- the four words behind seven slots, without those whose slots are missing
 whole_four : (b : List ℕ) (count : ℕ) → count ≤ 7
     → drop (7 - count) (map (λ j. gathered (slots_in b j 8)) (below 4))
     ≡ run_gives gather_next gather_gives (start b count) (slots_in b 7 4)
@@ -218,7 +218,7 @@ whole_four b count few =
     let three = whole_more b count 2 (word 0 ∷ word 1 ∷ []) few refl two in
     whole_more b count 3 (word 0 ∷ word 1 ∷ word 2 ∷ []) few refl three
 
--- the words that come with a block
+-- the words that end with a block
 pub block_words : (early late block : List ℕ) (count : ℕ) (words four : List (List ℕ)) → length early ≡ 72
     → length late ≡ 96 → length block ≡ 96 → count ≤ 7
     → four ≡ map (λ first. gathered (slots_in (early ++ (late ++ block)) first 8)) (below 4)

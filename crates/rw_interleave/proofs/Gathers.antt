@@ -1,4 +1,4 @@
--- What a gatherer gives for a list of slots.
+-- The words that a gatherer puts together from a list of slots.
 use Rattle.std.proofs.Common.{◌≡◌, ℕ, suc, ◌-◌, ◌<◌, ◌≤◌, List, [], ◌∷◌, ◌++◌, length, map, drop, sym, ap, ◌∙◌, subst, arith, append_assoc, length-append, Some, None, inl, inr}
 use Rattle.std.specs.List.{All, concat, range_with_len, AllByRecursion}
 use Rattle.std.proofs.lemmas.List.Elements.{recursion_from_All}
@@ -29,7 +29,7 @@ gather_full x v s six =
     let one : length ((x ∷ v) ++ s ∷ []) - 7 ≡ 1 = omega (arith, length-append v (s ∷ [])) in
     (ap (λ n. drop n ((x ∷ v) ++ s ∷ [])) one, grind arith)
 
--- a word more, where a slot stands before at least seven others
+-- one more word, if at least seven other slots follow a slot
 words_more : (x : List ℕ) (slots : List (List ℕ)) → length x ≡ 24 → 7 ≤ length slots
     → word_of (concat (x ∷ slots)) 0 ∷ words slots ≡ words (x ∷ slots)
 words_more x slots size enough =
@@ -41,7 +41,7 @@ words_more x slots size enough =
     ap (λ l. word_of (concat (x ∷ slots)) 0 ∷ l) (sym later)
     ∙ ap (λ n. map (word_of (concat (x ∷ slots))) (below n)) (sym count)
 
--- the words that are given from a window on
+-- the words that slots complete, from a window
 abbrev run : List (List ℕ) → List (List ℕ) → List (List ℕ)
 run w slots = run_gives gather_next gather_gives w slots
 

@@ -1,4 +1,4 @@
--- What is found for the words of a stream.
+-- The findings for the words of a stream.
 use Rattle.std.proofs.Common.{◌≡◌, ℕ, ◌+◌, ◌-◌, ◌*◌, ◌/◌, ◌<◌, ◌≤◌, ◌==◌, inl, inr, Bool, cond, if◌then◌else◌, List, [], ◌∷◌, ◌++◌, length, get_or, map, replicate, refl, sym, ap, ap₂, ◌∙◌, subst, arith, All, length-append, Some, None, is_none}
 use Rattle.std.specs.declared.option.Option.{Option}
 use Rattle.std.specs.List.{concat}
@@ -79,7 +79,7 @@ small_get symbols small p = elim (leb_tells (length symbols) p) [
   | inr within ↦ All-get_or (λ symbol. symbol < 64) symbols p 0 within.1 small
 ]
 
--- ---- what is found
+-- ---- findings
 
 finding_of : (word codeword : List ℕ) (found : Option (List ℕ)) → OneIsNear → IsWord word
     → Reads word codeword → IsFinding word found
@@ -115,7 +115,7 @@ clean_found form symbols found one codewords recovered =
     found_is form symbols found (form_word form symbols) one recovered
     (λ n lt. ((codewords n lt).is_word, itself _ (codewords n lt)))
 
--- what is found for a word is this function of it, and nothing else is
+-- `finds` has the finding of each word
 abbrev pub IsFound : (List ℕ → Option (List ℕ)) → Type 0
 IsFound finds = (received : List ℕ) → IsWord received → IsFinding received (finds received)
 
@@ -148,7 +148,7 @@ one_recovered finds only form symbols small found other recovered again =
     let word : IsWord (form_word form symbols n) = form_words form symbols n small in
     only _ _ word (recovered.each n within) ∙ sym (only _ _ word (again.each n within)))
 
--- ---- packs through damage
+-- ---- packs of damaged streams
 
 -- there are at least as many words as packs
 enough : (form : Form) (blocks : ℕ) → whole_packs blocks ≤ word_count form blocks

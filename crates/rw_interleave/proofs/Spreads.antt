@@ -1,4 +1,4 @@
--- What a spreader gives for a list of packs.
+-- The slots that a spreader makes from a list of packs.
 use Rattle.std.proofs.Common.{◌≡◌, ◌≢◌, ℕ, zero, suc, ◌+◌, ◌-◌, ◌*◌, ◌/◌, ◌%◌, ◌<◌, ◌≤◌, cond, ltb, List, [], ◌∷◌, ◌++◌, length, get_or, map, drop, replicate, refl, sym, ap, ap₂, ◌∙◌, arith, append_assoc, length-append, length-drop, Option, Some, None, unwrap_or, slice_get, inl, inr}
 use Rattle.std.specs.List.{All, concat, range_with_len, AllByRecursion}
 use Rattle.std.proofs.lemmas.Bool.{cases_lt, lt-ltb, le-ltb}
@@ -24,7 +24,7 @@ slot_symbol packs k position =
 abbrev slot_of : List (List ℕ) → ℕ → List ℕ
 slot_of packs k = map (slot_symbol packs k) (below 24)
 
--- the symbol of the slot that comes with the last of some packs, from the last eight of them
+-- a symbol of the slot that is sent with the last of some packs, from the last eight packs
 last_symbol : (h rest : List (List ℕ)) (p : List ℕ) (position : ℕ)
     → spread_symbol (last_seven h ++ p ∷ []) position ≡ slot_symbol (h ++ p ∷ rest) (length h) position
 unfolding spread_symbol
@@ -63,7 +63,7 @@ last_symbol h rest p position =
           (le-ltb (length h) back late))
     ]
 
--- the symbol from the pack that is so many before the last, or from zeros
+-- the symbol from the pack that is `back` packs before the last, or 0
 pub symbol_back : (packs : List (List ℕ)) (found : Option (List ℕ)) (symbols : List ℕ) (back position : ℕ)
     → found ≡ cond (ltb back (length packs)) (slice_get packs (length packs - back - 1)) None
     → symbols ≡ unwrap_or found (replicate 24 0) → position % 8 ≡ back → position < 24
@@ -99,7 +99,7 @@ symbol_back packs found symbols back position found_is is at lt =
     ∙ ap (λ (k : ℕ). cond (ltb k (length packs))
     (get_or (get_or packs (length packs - k - 1) []) (swapped position) 0) 0) (sym at)
 
--- the packs kept are the last seven of all
+-- the packs that are kept are the last seven
 kept : (h : List (List ℕ)) (p : List ℕ) → spread_next (last_seven h) p ≡ last_seven (h ++ p ∷ [])
 unfolding spread_next
 kept h p =
@@ -145,7 +145,7 @@ slots_sized packs a zero = tt
 slots_sized packs a (suc n) =
     (length-map-range_with_len (slot_symbol packs a) 0 24, slots_sized packs (a + 1) n)
 
--- a symbol of the slots by its place
+-- a symbol of the slots, from its place
 pub spread_at : (packs : List (List ℕ)) (k q : ℕ) → k < length packs → q < 24
     → get_or (concat (run [] packs)) (24 * k + q) 0 ≡ slot_symbol packs k q
 spread_at packs k q lt within =
@@ -155,7 +155,7 @@ spread_at packs k q lt within =
     (get_or-map-range_with_len (slot_of packs) 0 (length packs) k k [] lt (omega arith))
     ∙ get_or-map-range_with_len (slot_symbol packs k) 0 24 q q 0 within (omega arith)
 
--- where the pack's own slot is not after slot k
+-- a symbol of pack n in one of its eight slots
 symbol_of_pack : (packs : List (List ℕ)) (n k q : ℕ) → k ≡ n + q % 8
     → slot_symbol packs k q ≡ get_or (get_or packs n []) (swapped q) 0
 symbol_of_pack packs n k q e =
@@ -218,7 +218,7 @@ sized_concat f a (suc n) size =
     ∙ ap₂ (λ (m k : ℕ). m + k) (size a) (sized_concat f (a + 1) n size)
     ∙ omega arith
 
--- as many symbols as the slots have
+-- the slots have 24 symbols for each pack
 spread_size : (packs : List (List ℕ)) → length (concat (run [] packs)) ≡ 24 * length packs
 spread_size packs =
     ap (λ s. length (concat s)) (slots_are packs)

@@ -1,4 +1,4 @@
--- What a window of slots gives with a block, and what it is afterwards.
+-- The words that end with a block, and the window after it.
 use Rattle.std.proofs.Common.{◌≡◌, ℕ, zero, suc, ◌+◌, ◌-◌, ◌*◌, ◌%◌, ◌<◌, ◌≤◌, Bool, false, List, [], ◌∷◌, ◌++◌, length, length-append, length-drop, map, min, take, drop, refl, sym, ap, ap₂, zero-add, ◌∙◌, arith, Some, None, inl, inr, bit_or}
 use Rattle.std.specs.Prelude.{slice_index, replicate}
 use Rattle.std.specs.declared.option.Option.{Option}
@@ -18,7 +18,7 @@ use Rattle.rw_interleave.specs.Windows.{IsWindow, slot_in, slots_in}
 use Rattle.rw_interleave.proofs.Gathers.{gather_short, gather_full}
 use Rattle.rw_interleave.proofs.Ranges.{map_range}
 
--- ---- Slots in a row.
+-- ---- Slots one after another.
 
 length-slots_in : (b : List ℕ) (f n : ℕ) → length (slots_in b f n) ≡ n
 unfolding slots_in
@@ -33,7 +33,7 @@ slots_first : (b : List ℕ) (f n : ℕ) → slots_in b f (suc n) ≡ slot_in b 
 unfolding slots_in
 slots_first b f n = refl
 
--- slots with the same symbols
+-- the slots of two lists are equal if their symbols are equal
 pub slots_same : (b b' : List ℕ) (f g n : ℕ)
     → ((k : ℕ) → k < 24 * n → slice_index b (24 * f + k) % 64 ≡ slice_index b' (24 * g + k) % 64)
     → slots_in b f n ≡ slots_in b' g n
@@ -53,7 +53,7 @@ slots_same b b' f g (suc n) same =
 
 -- ---- A step.
 
--- the window after so many slots of a block
+-- the window after j slots of a block
 abbrev pub window_at : List ℕ → ℕ → ℕ → List (List ℕ)
 window_at b count j = slots_in b (7 + j - min (count + j) 7) (min (count + j) 7)
 
@@ -215,7 +215,7 @@ quiet_gives : run_gives gather_next gather_gives (replicate 7 (replicate 24 0)) 
 unfolding gather_next gather_gives gathered swapped
 quiet_gives = refl
 
--- a window of seven slots of zeros stays as it is after a block of zeros, and four words of zeros are given
+-- a window of seven slots of zeros is unchanged after a block of zeros, with which four words of zeros end
 pub quiet_block : (b block : List ℕ) → ((n : ℕ) → n < 168 → slice_index b n % 64 ≡ 0)
     → ((n : ℕ) → n < 96 → slice_index block n % 64 ≡ 0)
     → (slots_in b 0 7 ≡ run_state gather_next (slots_in b 0 7) (slots_in block 0 4))
@@ -237,9 +237,9 @@ or_zeros a b none =
     let right = le_or_r (a % 64) (b % 64) in
     (omega (arith, both, left), omega (arith, both, right))
 
--- ---- A block that is put behind the slots before it, and the slots that are then moved up.
+-- ---- A block that is put behind the earlier slots, which are then moved up.
 
--- The slots before it stay, and the block follows them.
+-- The earlier slots are unchanged, and the block follows them.
 pub record IsPut (b p block : List ℕ) : Type 0 where
   pub before : (n : ℕ) → n < 168 → slice_index p n ≡ slice_index b n
   pub after : (n : ℕ) → n < 96 → slice_index p (168 + n) ≡ slice_index block n % 64
@@ -298,7 +298,7 @@ moved_symbols p m small moved n within = let there = small (96 + n) (omega arith
 
 -- ---- The last seven slots as two lists, of three slots and of four.
 
--- where each is that of a row
+-- if both are parts of a row, so are they together
 pub joined_at : (early late row : List ℕ) (at : ℕ) → length early ≡ 72
     → ((n : ℕ) → n < 72 → slice_index early n ≡ slice_index row (at + n))
     → ((n : ℕ) → n < 96 → slice_index late n ≡ slice_index row (at + 72 + n))
@@ -313,7 +313,7 @@ joined_at early late row at size first second n within =
           ∙ ap (slice_index row) place
     ]
 
--- and a block behind them
+-- and a block is put behind them
 pub joined_put : (early late symbols block : List ℕ) → length early ≡ 72 → length late ≡ 96
     → ((n : ℕ) → n < 96 → slice_index symbols n ≡ slice_index block n % 64)
     → IsPut (early ++ late) (early ++ (late ++ symbols)) block
@@ -334,7 +334,7 @@ joined_put early late symbols block early_size late_size same =
           ∙ same n lt;
     }
 
--- the last three of the four, and the block, are the last seven then
+-- the last three of the four slots and the block are the new last seven slots
 pub joined_moved : (early late three symbols : List ℕ) → length early ≡ 72 → length late ≡ 96
     → length three ≡ 72 → ((n : ℕ) → n < 72 → slice_index three n ≡ slice_index late (24 + n)) → (n : ℕ)
     → n < 168
@@ -358,7 +358,7 @@ joined_moved early late three symbols early_size late_size three_size same =
     ∙ get_or-append_right (early ++ late) symbols 168 (96 + 72 + n) 0 size (omega arith)
     ∙ ap (slice_index symbols) place))
 
--- where each is so
+-- if both are zeros, so are they together
 pub joined_zeros : (early late : List ℕ) → length early ≡ 72
     → ((n : ℕ) → n < 72 → slice_index early n % 64 ≡ 0) → ((n : ℕ) → n < 96 → slice_index late n % 64 ≡ 0)
     → (n : ℕ) → n < 168
@@ -402,7 +402,7 @@ slots_rest b f (suc n) size small =
     (slots_rest b (f + 1) n (omega (arith, size)) small ∙ rest)
     ∙ take-append-drop 24 (drop (24 * f) b)
 
--- zeros, and the symbols of the slots that have come
+-- zeros, and then the symbols of the slots that have come
 pub kept_in : (b : List ℕ) (count : ℕ) (quiet : Bool) → IsWindow b count quiet
     → replicate (24 * (7 - count)) 0 ++ drop (24 * (7 - count)) b ≡ kept_symbols (start b count)
 kept_in b count quiet w =
@@ -411,7 +411,7 @@ kept_in b count quiet w =
     (sym (slots_rest b (7 - count) count (omega (arith, few, w.size))
     (λ n lt. w.symbols n (omega (arith, lt, w.size)))))
 
--- a list whose first bytes are zeros, and whose rest is that of the slots
+-- a list that begins with zeros and continues with the slots
 pub padded : (b p symbols : List ℕ) (first : ℕ) → first ≤ 168 → length b ≡ 168 → length symbols ≡ 168
     → ((n : ℕ) → n < 168 → slice_index p n ≡ slice_index b n)
     → ((n : ℕ) → n < first → slice_index symbols n ≡ 0)
@@ -444,7 +444,7 @@ padded b p symbols first most size count before zeros rest =
           ∙ ap (slice_index b) place)
     ])
 
--- ---- The word that comes with a slot.
+-- ---- The word that ends with a slot.
 
 pub none_given : (b : List ℕ) (count : ℕ) → count < 7 → gather_gives (start b count) (slot_in b 7) ≡ None
 none_given b count lt =
@@ -459,7 +459,7 @@ one_given b count full =
     ap (λ m. gather_gives (slots_in b (7 - m) m) (slot_in b 7)) (sym none)
     ∙ (step_full b count 0 (omega (arith, full))).1
 
--- ---- A slot that is put behind the slots before it, and the slots that are then moved up.
+-- ---- A slot that is put behind the earlier slots, which are then moved up.
 
 pub slot_symbols : (b p m slot : List ℕ) → ((n : ℕ) → n < 168 → slice_index b n < 64) → IsWord slot
     → ((n : ℕ) → n < 168 → slice_index p n ≡ slice_index b n)
@@ -481,7 +481,7 @@ slot_symbols b p m slot small word before after moved n within =
           omega (arith, here, there, at, low)
     ]
 
--- a slot that is put as a block that begins with it
+-- putting a slot is putting a block that begins with it
 pub alone_put : (p block slot : List ℕ) → IsWord slot
     → ((n : ℕ) → n < 96 → slice_index p (168 + n) ≡ slice_index block n % 64)
     → ((n : ℕ) → n < 24 → slice_index block n ≡ slice_index slot n)
@@ -492,7 +492,7 @@ alone_put p block slot word put same n lt =
     let there = put n (omega (arith, lt)) in
     omega (arith, small, there, same n lt)
 
--- a symbol that is put is itself its low six bits
+-- a symbol that is put is equal to its low six bits
 low_same : (p slot : List ℕ) (i : ℕ) → IsWord slot → i < 24 → slice_index p (168 + i) ≡ slice_index slot i
     → slice_index p (24 * 7 + i) % 64 ≡ slice_index slot i
 low_same p slot i word lt same =
@@ -542,7 +542,7 @@ slot_state b p m slot count few word before after moved =
     let first : window_at p count 0 ≡ start p count = ap (λ m. slots_in p (7 - m) m) none in
     back ∙ sym (step_next p count 0) ∙ ap₂ gather_next (first ∙ old) (slot_same p slot word after)
 
--- a window of zeros of which no slot has come
+-- a window of zeros into which no slot has come
 pub fresh_window : IsWindow (replicate 72 0 ++ replicate 96 0) 0 false
 fresh_window = record {
   size = omega (arith, length-append (replicate {A = ℕ} 72 0) (replicate 96 0), length-replicate {A = ℕ});

@@ -13,7 +13,7 @@ moved : (candidates : List Candidate) (i j one other : ℕ) (codeword : List ℕ
 moved candidates i j one other codeword is is' agreed =
     subst₂ (λ (a b : ℕ). IsPairAgreed candidates a b codeword) is is' agreed
 
--- a pair that is earlier than the next is earlier than this one, or is it
+-- a pair before the next pair is before this one, or equal to it
 earlier : (one other i j : ℕ) → IsEarlier (one + 1) other i j
     → IsEarlier one other i j ⊎ ((i ≡ one) × (j ≡ other))
 earlier one other i j (inl lt) = inl (inl lt)
@@ -23,7 +23,7 @@ earlier one other i j (inr (same, lt)) =
       | inr differs ↦ inl (inr (same, omega (arith, differs)))
     ]
 
--- the pair agrees on nothing
+-- the pair does not agree on a codeword
 pub none_more : (candidates : List Candidate) (one other : ℕ) (found : Agreements)
     → ((codeword : List ℕ) → ¬ IsPairAgreed candidates one other codeword)
     → ArePairAgreements candidates one other found → ArePairAgreements candidates (one + 1) other found
@@ -46,7 +46,7 @@ none_more candidates one other (Alone pack) none are = record {
 }
 none_more candidates one other Several none are = are
 
--- the pair agrees on the first codeword
+-- the pair is the first that agrees on a codeword
 pub first_more : (candidates : List Candidate) (one other : ℕ) (pack : List ℕ)
     → IsPairAgreed candidates one other pack
     → ((another : List ℕ) → IsPairAgreed candidates one other another → another ≡ pack)
@@ -63,7 +63,7 @@ first_more candidates one other pack is only none = record {
       ];
 }
 
--- on the same
+-- the pair agrees on the same codeword
 pub same_more : (candidates : List Candidate) (one other : ℕ) (pack own : List ℕ)
     → ((another : List ℕ) → IsPairAgreed candidates one other another → another ≡ pack) → own ≡ pack
     → IsAloneBefore candidates one other own → IsAloneBefore candidates (one + 1) other own
@@ -80,7 +80,7 @@ same_more candidates one other pack own only same_pack are = record {
       ];
 }
 
--- on another
+-- the pair agrees on another codeword
 pub other_more : (candidates : List Candidate) (one other : ℕ) (pack own : List ℕ)
     → IsPairAgreed candidates one other pack
     → own ≢ pack → IsAloneBefore candidates one other own → DiffersSomewhere candidates
@@ -96,7 +96,7 @@ other_more candidates one other pack own is differ are = record {
   differ = differ;
 }
 
--- a row of pairs is done
+-- all pairs with this first reading have been compared
 later : (j i k : ℕ) → i < k → IsEarlier 0 (j + 1) i k → IsEarlier j j i k
 later j i k lt (inl less) =
     elim (cases_eq k j) [
@@ -122,7 +122,7 @@ pub nothing_before : (candidates : List Candidate) → ArePairAgreements candida
 nothing_before candidates i j codeword (inl lt) agreed = omega (arith, lt)
 nothing_before candidates i j codeword (inr (same, lt)) agreed = omega (arith, lt)
 
--- all pairs are looked at
+-- all pairs have been compared
 pub alone_is : (candidates : List Candidate) (pack : List ℕ)
     → ArePairAgreements candidates 0 (length candidates) (Alone pack)
     → IsAgreedAlone candidates pack

@@ -1,4 +1,4 @@
--- What a reading gives whose blocks under a word are those of the first.
+-- The candidate of a reading whose blocks under a word equal those of the first reading.
 use Rattle.std.proofs.Common.{◌≡◌, ◌≢◌, ℕ, ◌+◌, ◌-◌, ◌*◌, ◌/◌, ◌%◌, ◌<◌, ◌≤◌, List, [], get_or, map, sym, ap, ap₂, ◌∙◌, subst, inl, inr, arith}
 use Rattle.std.specs.List.{range_with_len}
 use Rattle.std.proofs.lemmas.Bool.{cases_lt}
@@ -14,7 +14,7 @@ use Rattle.rw_mend.specs.declared.cover.BlockHistory.{BlockHistory}
 use Rattle.rw_mend.specs.declared.candidates.WordReading.{WordReading}
 use Rattle.rw_mend.proofs.Unread.{in_block}
 
--- lists of as many values of two functions that are the same wherever they are taken
+-- maps of two functions that agree are equal
 same_values : {X : Type 0} (f g : ℕ → X) (d : X) (from count : ℕ)
     → ((k : ℕ) → from ≤ k → k < from + count → f k ≡ g k)
     → map f (range_with_len from count) ≡ map g (range_with_len from count)
@@ -99,7 +99,7 @@ same_history first program n from history is low was =
       third_blank = λ apart. was.third_blank apart ∙ ap is_blank_block (three apart);
     }
 
--- ---- A block more.
+-- ---- One more block.
 
 pub followed_on : (first program : List ℕ) (blocks more from : ℕ) → AreSameFrom first program blocks from
     → more ≤ blocks + 1 → (blocks < more → block_at program blocks ≡ block_at first blocks)

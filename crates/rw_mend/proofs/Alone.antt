@@ -1,4 +1,4 @@
--- A codeword that alone counts comes out, and so do packs of which readings have enough.
+-- A codeword is chosen if no other codeword counts, and so are packs that enough readings have.
 use Rattle.std.proofs.Common.{◌≡◌, ◌==◌, ℕ, suc, ◌<◌, ◌≤◌, Bool, true, false, List, [], length, get_or, map, refl, sym, ap, ◌∙◌, inl, inr, arith, Some, None}
 use Rattle.std.specs.Prelude.{nat_lt}
 use Rattle.std.specs.List.{concat, list_any}
@@ -26,7 +26,7 @@ use Rattle.rw_mend.proofs.Missing.{some_passes}
 use Rattle.rw_mend.proofs.Once.{best_counts, not_agreed}
 use Rattle.rw_mend.proofs.Same.{same_is}
 
--- whether so many symbols stand against a candidate
+-- whether a candidate is a codeword of this distance
 has_doubts : ℕ → Candidate → Bool
 has_doubts d (Near pack doubts) = doubts == d
 has_doubts d candidate = false
@@ -110,7 +110,7 @@ of_source candidates codeword (Reading k) found r first only by =
     ∙ only k near.0 near.1 by.0.within near.2
 of_source candidates codeword Agreed found r first only by = absurd (not_agreed candidates r found first by)
 
--- a codeword that counts comes out where no other counts
+-- a codeword that counts is chosen if no other codeword counts
 pub mended_alone : (candidates : List Candidate) (codeword : List ℕ) (r : ℕ) (doubts : ℕ)
     (found : Option Mended)
     → r < length candidates
@@ -169,7 +169,7 @@ enough_text words programs packs said found is mended =
     (mended.each n within)) in
     flat_joined mended_bytes found ∙ ap concat same
 
--- nothing counts for nothing where all give the same
+-- if all readings have the same packs, no codeword is dropped
 none_drops : (words : ℕ) (programs packs : List (List ℕ)) (r n : ℕ) → AllGive words programs packs
     → n < words → r < length programs → ¬ IsDropped words programs r n
 none_drops words programs packs r n is here within (inl lacking) =

@@ -1,4 +1,4 @@
--- A codeword that a reading gives with no wrong symbol comes out.
+-- An error-free codeword of a reading is chosen.
 use Rattle.std.proofs.Common.{◌≡◌, ◌⊎◌, ◌==◌, ℕ, zero, suc, ◌<◌, ◌≤◌, Bool, true, false, ◌&&◌, ◌||◌, List, length, get_or, refl, sym, ap, ◌∙◌, subst, inl, inr, arith, Some, None}
 use Rattle.std.specs.Prelude.{nat_lt}
 use Rattle.std.specs.declared.option.Option.{Option}
@@ -54,7 +54,7 @@ not_less : (a b : ℕ) → b ≤ a → nat_lt a b ≡ false
 not_less a b le =
     elim (leb_tells (suc a) b) [ inl is ↦ absurd (omega (arith, le, is.1)) | inr other ↦ other.0 ]
 
--- the first number at which a test holds
+-- the first number that passes a test
 pub least : (p : ℕ → Bool) (n : ℕ)
     → ((k : ℕ) × (k < n) × (p k ≡ true) × ((j : ℕ) → j < k → p j ≡ false)) ⊎ ((j : ℕ) → j < n → p j ≡ false)
 least p zero = inr (λ j lt. absurd (omega (arith, lt)))
@@ -74,7 +74,7 @@ least p (suc n) =
 
 -- ---- The candidates of a word.
 
--- a clean codeword stands beside a candidate that is no other clean one
+-- an error-free codeword is at least as good as any candidate that is not another error-free codeword
 stands_clean : (candidates : List Candidate) (codeword : List ℕ) (candidate : Candidate)
     → ((other : List ℕ) → candidate ≡ Near other 0 → other ≡ codeword)
     → stands candidates codeword 0 candidate ≡ true
@@ -98,14 +98,14 @@ clean_is_best candidates codeword only =
     stands_clean candidates codeword (get_or candidates s d) (λ other is.
     only s other lt (get_or_default candidates s Silent d lt ∙ is)))
 
--- what is best is a codeword
+-- the best candidate is a codeword
 pub best_is_near : (candidates : List Candidate) (candidate : Candidate) → is_best candidates candidate ≡ true
     → (pack : List ℕ) × (doubts : ℕ) × (candidate ≡ Near pack doubts)
 best_is_near candidates Silent is = absurd (false≢true is)
 best_is_near candidates (Lost word) is = absurd (false≢true is)
 best_is_near candidates (Near pack doubts) is = (pack, doubts, refl)
 
--- and where a clean codeword is among them, a clean one
+-- and if one of the candidates is error-free, so is the best
 best_is_clean : (candidates : List Candidate) (pack : List ℕ) (doubts r : ℕ) (codeword : List ℕ)
     → is_best candidates (Near pack doubts) ≡ true → r < length candidates
     → candidate_of_reading candidates r ≡ Near codeword 0 → doubts ≡ 0
@@ -154,7 +154,7 @@ mended_is candidates r codeword Agreed found within is only by =
     absurd (false≢true
     (sym by.0 ∙ list_any_at is_near candidates r Silent within (ap is_near is)))
 
--- a clean codeword comes out, unless another one is said
+-- an error-free codeword is chosen, unless another one is a candidate
 pub clean_wins : (candidates : List Candidate) (r : ℕ) (codeword : List ℕ) (found : Option Mended)
     → r < length candidates
     → candidate_of_reading candidates r ≡ Near codeword 0

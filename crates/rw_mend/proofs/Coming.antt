@@ -1,4 +1,4 @@
--- A mender comes to the words of readings in turn.
+-- A mender reads the words of the readings one after another.
 use Rattle.std.proofs.Common.{◌≡◌, ℕ, suc, ◌+◌, ◌/◌, ◌<◌, ◌≤◌, List, length, get_or, take, replicate, sym, ap, ◌∙◌, subst, inl, inr, arith}
 use Rattle.std.specs.Prelude.{if◌then◌else◌}
 use Rattle.std.specs.List.{list_any}
@@ -156,7 +156,7 @@ at_word readings n mender histories same_from given silences calm said dropped i
           (candidate_of_reading said r) size rows (silences_are.each r among) (rows.each r among) (each r lt);
     }
 
--- what is said at a word is the candidates of it
+-- the stored candidates are those of the word
 pub candidates_are : (readings : Readings) (n : ℕ) (mender : Mender) (candidates : List Candidate)
     → HasComeTo readings n mender → candidates ≡ take readings.count mender.said
     → length candidates ≡ readings.count → AreCandidates mender.words (programs_in readings) n candidates

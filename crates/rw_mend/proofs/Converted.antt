@@ -1,4 +1,4 @@
--- What a reading gives is what a conversion writes of it, and so is what comes out where it alone counts.
+-- The candidates of a reading have the packs of its conversion, and so has the result if only this reading counts.
 use Rattle.std.proofs.Common.{◌≡◌, ◌==◌, ℕ, zero, suc, ◌-◌, ◌*◌, ◌/◌, ◌%◌, ◌<◌, ◌≤◌, Bool, true, false, List, [], ◌∷◌, ◌++◌, length, get_or, map, drop, refl, sym, ap, ◌∙◌, subst, inl, inr, arith, length-drop, Some, None}
 use Rattle.std.specs.Prelude.{count_by, if◌then◌else◌}
 use Rattle.std.specs.List.{concat}
@@ -49,7 +49,7 @@ bytes_given : (candidate : Candidate) (codeword : List ℕ) → IsOrIdle candida
 bytes_given candidate codeword (inl (doubts, is)) = ap candidate_bytes is
 bytes_given candidate codeword (inr (silent, idle)) = ap candidate_bytes silent ∙ sym idle
 
--- what is written of a word by itself
+-- the packs that are written for a word of one reading
 pub written_is : (program : List ℕ) (n : ℕ) (found : Option (List ℕ))
     → IsFinding (word_of (symbols_of program) n) found
     → candidate_bytes (candidate_of (reading_at program n)) ≡ entry_bytes found
@@ -92,7 +92,7 @@ given_converted lead_in r programs bytes found whole program is =
     ∙ sym (get_or-map entry_bytes found n None [] (omega (arith, within, count)))) in
     flat_joined given (below words) ∙ ap concat same ∙ sym (flat_joined entry_bytes found)
 
--- ---- A reading that alone counts.
+-- ---- Only one reading counts.
 
 near_bytes : (candidate : Candidate) → is_idle_candidate candidate ≡ true
     → is_idle_pack (candidate_bytes candidate) ≡ true
@@ -124,7 +124,7 @@ never_dropped words programs r n is here (inl lacking) =
     false≢true (sym busy.3 ∙ ap is_idle_pack same ∙ idle)
 never_dropped words programs r n is here (inr doubted) = is.sure n here doubted
 
--- whatever codeword is said is that of the reading
+-- every codeword that is a candidate comes from the reading
 said_alone : (words : ℕ) (programs : List (List ℕ)) (r n s : ℕ) (candidates : List Candidate)
     (codeword : List ℕ)
     (doubts : ℕ) → CountsAlone words programs r → n < words → AreCandidates words programs n candidates
@@ -150,7 +150,7 @@ found_alone candidates codeword mended (Reading k) is only apart by =
     ∙ only k near.0 near.1 by.0.within near.2
 found_alone candidates codeword mended Agreed is only apart by = absurd (apart (sym is))
 
--- what comes out where some candidate is silent or lost, and none is another codeword than is written of it
+-- the result for a word if no candidate is another codeword than the pack that is written for `own`
 found_beside : (candidates : List Candidate) (own : Candidate) (r : ℕ) (found : Option Mended)
     → r < length candidates
     → candidate_of_reading candidates r ≡ own
@@ -190,7 +190,7 @@ text_alone words programs r said found is mended apart =
     each_text words programs r found mended.count (λ n lt.
     word_alone words programs r n said found is mended lt (apart n lt))
 
--- ---- No word is agreed where none is counted.
+-- ---- No word is agreed if none is counted.
 
 none_of : (b : Bool) → (if b then 1 else 0) ≤ 0 → b ≡ false
 none_of true none = absurd (omega (arith, none))
@@ -243,7 +243,7 @@ not_agreed_way words said found said_size size none n lt is =
     ∙ ap (is_mended_by Together) at.1
     ∙ agreed_way (get_or said n []) (get_or found n None) is)
 
--- ---- What the calls write.
+-- ---- The outputs of the calls.
 
 one_of_two : (first second : List ℕ) (r : ℕ) → r < 2 → length second ≡ length first
     → length (get_or (first ∷ second ∷ []) r []) ≡ length first
@@ -298,7 +298,7 @@ converted_many count lead_in r readings old new old_sources new_sources tallies 
     (get_or-map (program_of lead_in) all r [] [] inside) recovered)
     done.text
 
--- ---- A reading without a wrong symbol.
+-- ---- An error-free reading.
 
 pub clean_two : (lead_in r : ℕ) (first second old new : List ℕ) (counts : MendCounts)
     (found : List (Option (List ℕ))) → length first % 96 ≡ 0 → length second ≡ length first

@@ -1,4 +1,4 @@
--- Readings that are damaged in at most two symbols of each word give back every pack.
+-- Every pack is recovered from readings in which each word has at most two wrong symbols.
 use Rattle.std.proofs.Common.{◌≡◌, ◌≢◌, ◌⊎◌, ℕ, ◌+◌, ◌-◌, ◌*◌, ◌/◌, ◌<◌, ◌≤◌, true, List, [], ◌∷◌, ◌++◌, zero, suc, length, get_or, map, drop, replicate, refl, sym, ap, ◌∙◌, subst, inl, inr, arith, Some, None}
 use Rattle.std.specs.Prelude.{All}
 use Rattle.std.specs.List.{concat}
@@ -40,7 +40,7 @@ use Rattle.rw_mend.proofs.Kept.{doubtful_are, flat_joined, graphics_are, idle_is
 use Rattle.rw_mend.proofs.Once.{best_counts}
 use Rattle.rw_mend.proofs.Unread.{idle_where_unread}
 
--- A candidate is this codeword; or it is silent, and the codeword is the idle pack.
+-- The candidate is this codeword; or it is `Silent`, and the codeword is the idle pack.
 abbrev pub IsOrIdle : Candidate → List ℕ → Type 0
 IsOrIdle candidate codeword = ((doubts : ℕ) × (candidate ≡ Near codeword doubts))
     ⊎ ((candidate ≡ Silent) × (codeword ≡ replicate 24 0))
@@ -50,7 +50,7 @@ unread_or_not Whole = inr (λ e. (cc))
 unread_or_not Partly = inr (λ e. (cc))
 unread_or_not Unread = inl refl
 
--- what a reading of a word gives that is near a codeword
+-- the candidate of a word near a codeword
 pub near_given : (program : List ℕ) (n : ℕ) (codeword : List ℕ)
     → Reads (word_of (symbols_of program) n) codeword
     → IsOrIdle (candidate_of (reading_at program n)) codeword
@@ -110,7 +110,7 @@ mended_same candidates codeword (Some mended) some (inr (silent, idle)) each by 
 
 -- ---- Whole streams.
 
--- each reading of some programs gives the pack of each word, or nothing where that is idle
+-- each reading has the pack of each word, or no candidate if the pack is idle
 abbrev pub EachGives : ℕ → List (List ℕ) → List (List ℕ) → Type 0
 EachGives words programs packs = (n r : ℕ) → n < words → r < length programs
     → IsOrIdle (given_at programs r n) (get_or packs n [])
@@ -228,7 +228,7 @@ damaged_text lead_in blocks packs readings said found is mended =
     (omega (arith, is.some, length-map readings (program_of lead_in))) is.carries.count
     (all_give lead_in blocks packs readings is) mended
 
--- ---- What the calls write of them.
+-- ---- The outputs of the calls for them.
 
 pub written : (text packs new old : List ℕ) → text ≡ packs → new ≡ text ++ drop (length text) old
     → new ≡ packs ++ drop (length packs) old
@@ -270,7 +270,7 @@ two_hold P first second one other zero d lt = one
 two_hold P first second one other (suc zero) d lt = other
 two_hold P first second one other (suc (suc k)) d lt = absurd (omega (arith, lt))
 
--- two readings that are damaged for a merge
+-- two readings that are damaged as a merge allows
 pub damaged_pair : (lead_in blocks : ℕ) (packs : List (List ℕ)) (first second : List ℕ)
     → IsDamagedTwice lead_in blocks packs first second
     → AreDamagedReadings lead_in blocks packs (first ∷ second ∷ [])

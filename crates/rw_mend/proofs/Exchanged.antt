@@ -1,4 +1,4 @@
--- Two readings that change places: a word that was the first's is then the second's, and the other way round.
+-- Two readings in the other order: a word of the first reading becomes one of the second, and the other way round.
 use Rattle.std.proofs.Common.{◌≡◌, ◌⊎◌, ◌==◌, ℕ, zero, suc, ◌+◌, ◌-◌, ◌/◌, ◌<◌, Bool, true, false, List, [], ◌∷◌, length, get_or, map, refl, sym, ap, ap₂, ◌∙◌, subst, subst₂, inl, inr, arith, Some, None}
 use Rattle.std.specs.Prelude.{IsPermutation, count_by, if◌then◌else◌, is_none}
 use Rattle.std.specs.declared.option.Option.{Option}
@@ -27,7 +27,7 @@ use Rattle.rw_mend.proofs.Damaged.{written}
 use Rattle.rw_mend.proofs.Reordered.{AreCodewords, AreSameCandidates, IsSameWord, count_mapped, reordered_text, said_codewords, same_word, says, says_same, candidates_are, votes_same}
 use Rattle.rw_mend.proofs.Running.{ways_length}
 
--- ---- The way of a word.
+-- ---- The source of a word.
 
 abbrev turned_way : Way → Way
 turned_way Both = Both
@@ -170,7 +170,7 @@ said_turned words p q n vs ws found found' are are' is is' =
     (word_turned a b found found' mending
     (same_word (a ∷ b ∷ []) (b ∷ a ∷ []) found found' (exchange a b) codewords codewords' mending mending'))
 
--- as many pass one test as pass another, where each does that has its place
+-- if corresponding elements pass two tests alike, the counts are equal
 count_placed : {X : Type 0} (p q : X → Bool) (xs ys : List X) (d : X) → length xs ≡ length ys
     → ((n : ℕ) → n < length ys → p (get_or xs n d) ≡ q (get_or ys n d)) → count_by p xs ≡ count_by q ys
 count_placed p q xs ys d size each =
@@ -224,7 +224,7 @@ exchanged_two lead_in first second old new old' new' counts counts' same done do
           ∙ sym done.counts_are.none;
     }
 
--- what the calls write is the same
+-- the output of the calls is the same
 pub same_two : (lead_in : ℕ) (first second old new new' : List ℕ) (counts counts' : MendCounts)
     → length second ≡ length first → IsMendedInto lead_in first second old new counts
     → IsMendedInto lead_in second first old new' counts' → new' ≡ new

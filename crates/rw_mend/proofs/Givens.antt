@@ -1,4 +1,4 @@
--- What a reading gives is a codeword, and what it gives is what is found for its words.
+-- The candidates of a reading are codewords, and they are the findings for its words.
 use Rattle.std.proofs.Common.{◌≡◌, ℕ, zero, suc, ◌<◌, List, [], ◌∷◌, get_or, refl, sym, subst, arith, Some, None}
 use Rattle.std.specs.declared.option.Option.{Option}
 use Rattle.raw_subcode.specs.Channels.{symbols_of}

@@ -1,4 +1,4 @@
--- Any number of readings that lie one behind another.
+-- Any number of readings, one behind another.
 use Rattle.std.proofs.Common.{◌≡◌, ℕ, zero, suc, ◌+◌, ◌-◌, ◌*◌, ◌/◌, ◌%◌, ◌<◌, ◌≤◌, List, [], ◌++◌, length, get_or, map, min, take, drop, refl, sym, ap, ap₂, ◌∙◌, subst₂, arith, length-append, length-take, length-drop}
 use Rattle.std.proofs.Math.Seq.{drop-append_seam, take-append_seam}
 use Rattle.std.proofs.Math.Nat.{mul-div-le, mul-le-mul_left, mul-le-mul_right}
@@ -34,7 +34,7 @@ parts_length (suc count) size xs = ap (λ n. suc n) (parts_length count size (dr
 fits : (size r count : ℕ) → r < count → size * r + size ≤ count * size
 fits size r count lt = omega (arith, mul-le-mul_left size lt)
 
--- each part is as long as it is asked for
+-- each part has the requested length
 pub part_whole : (count : ℕ) (bytes : List ℕ) (r : ℕ) → r < count
     → length (get_or (parts count (length bytes / count) bytes) r []) ≡ length bytes / count
 part_whole count bytes r lt =
@@ -139,7 +139,7 @@ many_mended readings count lead_in bytes old new old_sources new_sources tallies
       losses = done.has_it.1;
     }
 
--- the first reading is as long as each of all
+-- the first reading has the length of each reading
 pub first_long : (count : ℕ) (bytes : List ℕ) → 0 < count → length bytes ≡ count * (length bytes / count)
     → length (take (length bytes / count) bytes) ≡ length bytes / count
 first_long count bytes some long =

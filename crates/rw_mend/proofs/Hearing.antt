@@ -1,4 +1,4 @@
--- What a reading of a word gives, by cases.
+-- The candidate of a reading at a word, by cases.
 use Rattle.std.proofs.Common.{◌≡◌, ◌≢◌, ◌==◌, ℕ, if◌then◌else◌, List, replicate, refl, sym, ap, ap₂, ◌∙◌, subst, arith, Some, None}
 use Rattle.rw_code.specs.Codeword.{IsWord, Reads, differences}
 use Rattle.rw_code.proofs.Differing.{differences_self}

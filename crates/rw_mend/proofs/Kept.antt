@@ -1,4 +1,4 @@
--- A reading without a wrong symbol comes out whole.
+-- Every codeword of an error-free reading is chosen.
 use Rattle.std.proofs.Common.{◌≡◌, ◌==◌, ◌&&◌, ◌||◌, ℕ, ◌<◌, Bool, true, false, not, List, [], ◌∷◌, ◌++◌, length, get_or, map, refl, sym, ap, ◌∙◌, subst, inl, inr, arith, None}
 use Rattle.std.specs.List.{concat, flat_map}
 use Rattle.std.specs.declared.option.Option.{Option}
@@ -40,7 +40,7 @@ pub second_of : (a b : Bool) → (a || b) ≡ true → a ≡ false → b ≡ tru
 second_of true b is fails = absurd (false≢true (sym fails))
 second_of false b is fails = is
 
--- graphics are a codeword that is not idle
+-- a graphics candidate is a codeword that is not idle
 pub graphics_are : (candidate : Candidate) → is_graphics_candidate candidate ≡ true
     → (pack : List ℕ) × (doubts : ℕ) × (candidate ≡ Near pack doubts) × (is_idle_pack pack ≡ false)
 graphics_are Silent is = absurd (false≢true is)
@@ -49,7 +49,7 @@ graphics_are (Near pack doubts) is =
     let tests = both_of (not (is_idle_pack pack)) ((doubts == 0) || is_graphics_pack pack) is in
     (pack, doubts, refl, not_true (is_idle_pack pack) tests.0)
 
--- and so is a doubtful codeword
+-- and so is a doubtful candidate
 pub doubtful_are : (candidate : Candidate) → is_doubtful_candidate candidate ≡ true
     → (pack : List ℕ) × (doubts : ℕ) × (candidate ≡ Near pack doubts) × (is_idle_pack pack ≡ false)
 doubtful_are Silent is = absurd (false≢true is)
@@ -84,7 +84,7 @@ pub clean_sure : (pack : List ℕ) → ¬ (is_doubtful_candidate (Near pack 0) �
 clean_sure pack is =
     false≢true ((both_of (not (is_idle_pack pack)) (not (0 == 0) && not (has_used_mode pack)) is).1)
 
--- ---- What is said.
+-- ---- The candidates.
 
 said_cases : (words : ℕ) (programs : List (List ℕ)) (n r : ℕ) (candidate : Candidate) (pack : List ℕ)
     → IsSaid words programs n r candidate → candidate ≡ Near pack 0
@@ -97,7 +97,7 @@ pub said_kept : (words : ℕ) (programs : List (List ℕ)) (n r : ℕ) (candidat
 said_kept words programs n r candidate (inl (dropped, silent)) kept = absurd (kept dropped)
 said_kept words programs n r candidate (inr (kept', given)) kept = given
 
--- nothing of the clean reading counts for nothing
+-- no codeword of an error-free reading is dropped
 clean_kept : (words : ℕ) (programs : List (List ℕ)) (r n : ℕ) → IsCleanBeside words programs r → n < words
     → ¬ IsDropped words programs r n
 clean_kept words programs r n is lt (inl lacking) =
@@ -118,7 +118,7 @@ zeros_are pack codeword is =
       | inr some ↦ absurd (false≢true (sym some.0 ∙ is))
     ]
 
--- a reading that gives the idle pack where another gives graphics lacks them there
+-- a reading that has the idle pack while another has graphics lacks graphics there
 pub lacking_here : (words : ℕ) (programs : List (List ℕ)) (r n : ℕ) → n < words
     → is_idle_candidate (given_at programs r n) ≡ true → HasGraphics programs n → IsLacking words programs r n
 lacking_here words programs r n lt idle graphics =
@@ -141,7 +141,7 @@ lacking_here words programs r n lt idle graphics =
       };
     }
 
--- another clean codeword that is said is the same
+-- another error-free candidate is the same codeword
 only_clean : (words : ℕ) (programs : List (List ℕ)) (r n s : ℕ) (candidate : Candidate) (other : List ℕ)
     (is : IsCleanBeside words programs r) → n < words → s < length programs
     → IsSaid words programs n s candidate

@@ -41,7 +41,7 @@ one_more lost more marks b is more_is =
     ∙ count_case b (count_by (λ (mark : Bool). mark) marks)
     ∙ sym (count_push (λ (mark : Bool). mark) marks b)
 
--- a word more
+-- one more word
 pub losses_more : (n : ℕ) (lost more : List ℕ) (candidates : List Candidate) (f : Option Mended)
     → length more ≡ length lost
     → ((r : ℕ) → r < length candidates

@@ -1,4 +1,4 @@
--- Which readings lack graphics, and what they say, word by word.
+-- The readings that lack graphics, and their candidates, word by word.
 use Rattle.std.proofs.Common.{◌≡◌, ◌⊎◌, ℕ, ◌+◌, ◌-◌, ◌<◌, ◌≤◌, Bool, true, false, ◌||◌, List, [], ◌∷◌, ◌++◌, suc, length, length-append, below_more, get_or, refl, sym, ap, ◌∙◌, subst, inl, inr, arith}
 use Rattle.std.specs.List.{list_any}
 use Rattle.std.specs.Prelude.{◌&&◌, if◌then◌else◌, MatchBool, count_by}
@@ -19,7 +19,7 @@ use Rattle.rw_mend.specs.declared.silences.Silence.{Silence}
 use Rattle.rw_mend.specs.declared.candidates.Candidate.{Candidate}
 use Rattle.rw_mend.specs.declared.candidates.Candidate.TheVariants.{Silent, Lost, Near}
 
--- a Boolean is one or the other
+-- a Boolean is true or false
 pub told : (b : Bool) → (b ≡ true) ⊎ (b ≡ false)
 told true = inl refl
 told false = inr refl
@@ -46,7 +46,7 @@ pub decided : (b : Bool) (A : Type 0) → (b ≡ true → A) → (b ≡ false �
 decided true A holds fails = holds refl
 decided false A holds fails = fails refl
 
--- what a test tells of one thing it tells of another that goes with it
+-- the result of a test for a statement is the result for an equivalent one
 pub match_other : (b : Bool) (A B : Type 0) → (A → B) → (B → A) → MatchBool b A (¬ A) → MatchBool b B (¬ B)
 match_other true A B there back is = there is
 match_other false A B there back is = λ other. is (back other)
@@ -79,7 +79,7 @@ neither_of : (a b : Bool) → (a || b) ≡ false → (a ≡ false) × (b ≡ fal
 neither_of true b is = absurd (false≢true (sym is))
 neither_of false b is = (refl, is)
 
--- ---- A silence.
+-- ---- Silences.
 
 pub idle_is_quiet : (candidate : Candidate) → is_idle_candidate candidate ≡ true
     → is_quiet_candidate candidate ≡ true
@@ -209,9 +209,9 @@ same_silence words programs r n silence before is quiet =
     (match_other silence.lacks (Lacks words programs r m) (Lacks words programs r (m + 1))
     (lacks_on words programs r m here) (lacks_back words programs r m (before.quiet is)) (before.lacks is)))
 
--- ---- What is said.
+-- ---- The candidates.
 
--- a reading that gives the idle pack is quiet, and its silence tells whether it lacks graphics
+-- a reading that has the idle pack is quiet, and its silence decides whether it lacks graphics
 idle_lacks : (words : ℕ) (programs : List (List ℕ)) (r n : ℕ) (silence : Silence)
     → IsSilence words programs r (n + 1) silence → is_idle_candidate (given_at programs r n) ≡ true
     → MatchBool silence.lacks (Lacks words programs r n) (¬ Lacks words programs r n)
@@ -227,7 +227,7 @@ idle_lacks words programs r n silence is idle =
       | inr loud ↦ absurd (false≢true (sym (is.loud loud (omega arith)) ∙ quiet))
     ]
 
--- whether what a reading gives counts for nothing
+-- whether the codeword of a reading does not count
 pub left_is : (words : ℕ) (programs : List (List ℕ)) (r n : ℕ) (row : List Candidate) (silence : Silence)
     (given : Candidate) → length row ≡ length programs → IsRow programs n row
     → IsSilence words programs r (n + 1) silence → given ≡ given_at programs r n
@@ -285,7 +285,7 @@ said_by_case : (words : ℕ) (programs : List (List ℕ)) (r n : ℕ) (given sai
 said_by_case words programs r n given said true is given_is is_said = inl (is, is_said)
 said_by_case words programs r n given said false is given_is is_said = inr (is, is_said ∙ given_is)
 
--- what is said by a reading
+-- the candidate of a reading
 pub said_is : (words : ℕ) (programs : List (List ℕ)) (r n : ℕ) (row : List Candidate) (silence : Silence)
     (given said : Candidate) → length row ≡ length programs → IsRow programs n row
     → IsSilence words programs r (n + 1) silence → given ≡ given_at programs r n
@@ -294,7 +294,7 @@ said_is words programs r n row silence given said size rows is given_is is_said 
     said_by_case words programs r n given said (is_left (list_any is_quiet_candidate row) silence given)
     (left_is words programs r n row silence given size rows is given_is) given_is is_said
 
--- one mark more
+-- one more mark
 pub count_case : (b : Bool) (n : ℕ)
     → (n + (if b then 1 else 0)) ≡ n + count_by (λ (mark : Bool). mark) (b ∷ [])
 count_case true n = refl

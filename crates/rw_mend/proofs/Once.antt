@@ -1,4 +1,4 @@
--- One codeword at most is mended.
+-- At most one codeword is mended.
 use Rattle.std.proofs.Common.{◌≡◌, ℕ, ◌+◌, ◌<◌, List, [], length, get_or, refl, sym, ap, ap₂, ◌∙◌, subst, inl, inr, arith, Some, None}
 use Rattle.std.specs.declared.option.Option.{Option}
 use Rattle.std.proofs.lemmas.Bool.{cases_eq, false≢true}
@@ -62,7 +62,7 @@ one_source candidates Agreed Agreed codeword codeword' one other = (
   other.1.alone one.1.one one.1.other codeword one.1.agreed,
 )
 
--- of the candidates of a word one thing is found
+-- the candidates of a word have only one result
 pub one_found : (candidates : List Candidate) (found other : Option Mended) → IsMending candidates found
     → IsMending candidates other
     → found ≡ other
@@ -89,7 +89,7 @@ one_candidates words programs n candidates others one two =
     (one.each r within)
     (two.each r within))
 
--- what is found for readings is one list
+-- readings have only one list of results
 pub one_list : (words : ℕ) (programs : List (List ℕ)) (said said' : List (List Candidate))
     (found other : List (Option Mended)) → AreMended words programs said found
     → AreMended words programs said' other → found ≡ other

@@ -1,4 +1,4 @@
--- Two readings as readings that lie one behind another.
+-- Two readings as readings one behind another.
 use Rattle.std.proofs.Common.{◌≡◌, ℕ, ◌-◌, ◌*◌, ◌/◌, ◌%◌, List, [], ◌∷◌, ◌++◌, length, get_or, map, min, take, drop, sym, ap, ap₂, ◌∙◌, subst₂, arith}
 use Rattle.std.proofs.lemmas.List.{drop_min, take_all}
 use Rattle.bit_lists.specs.Counting.{below}
@@ -11,7 +11,7 @@ use Rattle.rw_mend.specs.Words.{program_of}
 use Rattle.rw_mend.specs.declared.readings.Readings.{Readings}
 use Rattle.rw_mend.specs.declared.streams.MendCounts.{MendCounts}
 
--- the blocks that are left after those that are passed over
+-- the number of blocks behind those that were passed over
 pub blocks_left : (size passed start : ℕ) → size % 96 ≡ 0 → start ≡ min (96 * passed) size
     → (size - start) / 96 ≡ size / 96 - passed
 blocks_left size passed start whole is = omega (arith, whole, is)

@@ -1,9 +1,9 @@
--- Where the symbols of a word stand.
+-- The places of the symbols of a word.
 use Rattle.std.proofs.Common.{arith, ℕ, ◌≡◌, ◌<◌, ◌+◌, ◌*◌, ◌≤◌}
 use Rattle.rw_interleave.specs.Interleave.{place}
 use Rattle.rw_interleave.proofs.Places.{swapped-lt}
 
--- a symbol stands as far after the first of its word, whatever the word is
+-- the distance of a symbol from the beginning of its word is the same for all words
 pub placed : (n i p : ℕ) → p ≡ place 0 i → 24 * n + p ≡ place n i
 placed n i p is = omega (arith, is)
 

@@ -1,4 +1,4 @@
--- Which words are quiet, and which are graphics, by how many symbols they have.
+-- Quiet words and graphics, from the numbers of their symbols.
 use Rattle.std.proofs.Common.{◌≡◌, ◌≢◌, ◌⊎◌, ℕ, ◌<◌, ◌≤◌, ◌==◌, Bool, true, false, List, length, replicate, refl, sym, ap, ◌∙◌, subst, inl, inr, arith, Some, None}
 use Rattle.std.specs.Prelude.{◌&&◌, ◌||◌, not, if◌then◌else◌, MatchBool}
 use Rattle.std.specs.List.{list_any}
@@ -90,7 +90,7 @@ far_read program n many unread =
       differences_self zeros,
     )
 
--- A word is quiet where it has two symbols at most.
+-- A word is quiet if at most two of its symbols are not 0.
 pub quiet_by_weight : (program : List ℕ) (n weight : ℕ) (b : Bool)
     → weight ≡ differences (word_of (symbols_of program) n) (replicate 24 0)
     → ((b ≡ true) × (weight ≤ 2)) ⊎ ((b ≡ false) × (2 < weight))
@@ -178,7 +178,7 @@ covered_alike Unread word is_read = absurd (is_read refl)
 covered_alike Whole word is_read = refl
 covered_alike Partly word is_read = found_alike Partly word (finding word)
 
--- A word with two symbols at most is no graphics.
+-- A word in which at most two symbols are not 0 is no graphics.
 pub light_no_graphics : (program : List ℕ) (n : ℕ) (word : List ℕ) → word ≡ word_of (symbols_of program) n
     → differences word (replicate 24 0) ≤ 2
     → false ≡ is_graphics_candidate (candidate_of (reading_at program n))
@@ -188,7 +188,7 @@ light_no_graphics program n word is few =
     sym (quiet_not_graphics (candidate_of reading)
     (near_quiet reading (is_word program n) (subst (λ w. differences w (replicate 24 0) ≤ 2) same few)))
 
--- Of another word it does not matter how much of it was read.
+-- For any other word, it does not matter how much of it was read.
 pub heavy_graphics : (program : List ℕ) (n : ℕ) (word : List ℕ) → word ≡ word_of (symbols_of program) n
     → 2 < differences word (replicate 24 0)
     → is_graphics_candidate (candidate_of (record { word = word; coverage = Whole }))
@@ -200,7 +200,7 @@ heavy_graphics program n word is many =
     ∙ covered_alike reading.coverage reading.word
     (far_read program n (subst (λ w. 2 < differences w (replicate 24 0)) same many))
 
--- Some reading gives graphics where one of a row does.
+-- Some reading has graphics if a candidate of the row is graphics.
 pub row_graphics : (programs : List (List ℕ)) (n : ℕ) (row : List Candidate) (b : Bool)
     → length programs ≡ length row → IsRow programs n row → b ≡ list_any is_graphics_candidate row
     → MatchBool b (HasGraphics programs n) (¬ HasGraphics programs n)
@@ -217,7 +217,7 @@ row_graphics programs n row false size rows is = λ has.
     (is ∙ list_any_at is_graphics_candidate row has.reading Silent (omega (arith, size, has.within))
     (ap is_graphics_candidate (rows.each has.reading has.within) ∙ has.graphics))
 
--- where some reading gives graphics, one misses them that is idle
+-- if some reading has graphics, a reading misses them if and only if it has the idle pack
 pub idle_misses : (programs : List (List ℕ)) (r n : ℕ) (b : Bool) → HasGraphics programs n
     → b ≡ is_idle_candidate (given_at programs r n)
     → MatchBool b (Misses programs r n) (¬ Misses programs r n)

@@ -1,4 +1,4 @@
--- Readings that lie one behind another.
+-- Readings one behind another.
 use Rattle.std.proofs.Common.{◌≡◌, ℕ, ◌<◌, [], length, get_or, arith}
 use Rattle.std.proofs.lemmas.List.FromFn.{get_or-map-range_with_len, length-map-range_with_len}
 use Rattle.rw_mend.specs.Readings.{program_in, programs_in}

@@ -1,4 +1,4 @@
--- Another order of the readings changes nothing but which of them is named.
+-- Another order of the readings changes only the names of the sources.
 use Rattle.std.proofs.Common.{◌≡◌, ◌≢◌, ◌⊎◌, ◌==◌, ℕ, suc, ◌+◌, ◌-◌, ◌/◌, ◌<◌, ◌≤◌, Bool, true, false, ◌&&◌, ◌||◌, List, [], ◌∷◌, length, get_or, map, refl, sym, ap, ap₂, ◌∙◌, subst, subst₂, inl, inr, arith, Some, None}
 use Rattle.std.specs.Prelude.{IsPermutation, MatchBool, count_by, if◌then◌else◌, nat_le, nat_lt, not}
 use Rattle.std.specs.List.{concat, list_all, list_any, swap}
@@ -39,7 +39,7 @@ use Rattle.rw_mend.proofs.Kept.{flat_joined, second_of}
 use Rattle.rw_mend.proofs.Missing.{either_of, some_passes, told}
 use Rattle.rw_mend.proofs.Once.{best_counts, not_agreed}
 
--- ---- Lists that are one another in another order.
+-- ---- Permutations of lists.
 
 any_same : {X : Type 0} (f g : X → Bool) (xs : List X) → ((x : X) → f x ≡ g x)
     → list_any f xs ≡ list_any g xs
@@ -72,7 +72,7 @@ count_reordered : {X : Type 0} (p : X → Bool) (xs ys : List X) → IsPermutati
     → count_by p xs ≡ count_by p ys
 count_reordered p xs ys is = sym (sum_by-IsPermutation (λ x. if p x then 1 else 0) xs ys is)
 
--- ---- What is said, as a function of a reading and of all readings.
+-- ---- The candidates, as a function of a reading and of all readings.
 
 pub between_by : ℕ → ℕ → ℕ → Bool
 between_by n m k = (nat_le n k && nat_le k m) || (nat_le m k && nat_le k n)
@@ -316,7 +316,7 @@ said_reordered words programs others n candidates candidates' is are are' =
     ∙ sym (candidates_are words others n candidates' are'))
     (IsPermutation-map (says words programs n) programs others is)
 
--- ---- What is best.
+-- ---- The best candidate.
 
 pub votes_same : (vs ws : List Candidate) (pack : List ℕ) → IsPermutation vs ws
     → votes vs pack ≡ votes ws pack
@@ -349,7 +349,7 @@ first_best vs ws r is first =
     let found = some_passes (is_best ws) ws Silent some in
     has_first ws found.0 found.1 found.2
 
--- of two that stand beside each other none is better
+-- of two candidates of which each is at least as good as the other, none is better
 fewer : (d e : ℕ) (b : Bool) → (nat_lt d e || ((d == e) && b)) ≡ true → (d < e) ⊎ ((d ≡ e) × (b ≡ true))
 fewer d e b is =
     elim (leb_tells (suc d) e) [
@@ -402,7 +402,7 @@ abbrev pub AreCodewords : List Candidate → Type 0
 AreCodewords candidates = (r : ℕ) (pack : List ℕ) (doubts : ℕ) → r < length candidates
     → candidate_of_reading candidates r ≡ Near pack doubts → IsCodeword pack
 
--- two candidates are the same codeword, with as many symbols against it
+-- both candidates are the same codeword, with the same distance
 pub record IsSameCandidate (vs ws : List Candidate) (r k : ℕ) : Type 0 where
   pub pack : List ℕ
   pub doubts : ℕ
@@ -442,7 +442,7 @@ same_best vs ws r k is codewords codewords' first first' =
       other = other.2 ∙ ap₂ Near (sym same.0) (sym same.1);
     }
 
--- ---- What two agree on.
+-- ---- The codewords on which two candidates agree.
 
 test_no : (a b : ℕ) → a ≢ b → (a == b) ≡ false
 test_no a b differ =
@@ -502,13 +502,13 @@ are_agreed_other (Near pack doubts) other codeword is = absurd is
 are_agreed_other (Lost first) Silent codeword is = absurd is
 are_agreed_other (Lost first) (Near pack doubts) codeword is = absurd is
 
--- some two agree on a codeword
+-- some pair of candidates agrees on a codeword
 pub record HasPair (candidates : List Candidate) (codeword : List ℕ) : Type 0 where
   pub i : ℕ
   pub j : ℕ
   pub is : IsPairAgreed candidates i j codeword
 
--- where an element stands after an exchange
+-- the place of an element after an exchange
 abbrev IsMoved : ℕ → ℕ → ℕ → ℕ → Type 0
 IsMoved i j m to = ((m ≡ i) × (to ≡ j)) ⊎ (((m ≢ i) × (m ≡ j) × (to ≡ i)) ⊎ ((m ≢ i) × (m ≢ j) × (to ≡ m)))
 
@@ -618,7 +618,7 @@ agreed_reordered vs ws codeword is alone =
           alone.alone back.i back.j another back.is;
     }
 
--- ---- What is found.
+-- ---- The results.
 
 none_near : (vs ws : List Candidate) → IsPermutation vs ws → list_any is_near vs ≡ false
     → list_any is_near ws ≡ false
@@ -637,7 +637,7 @@ some_found vs ws (Reading r) codeword is by =
 some_found vs ws Agreed codeword is by =
     (Agreed, codeword, (none_near vs ws is by.0, agreed_reordered vs ws codeword is by.1))
 
--- the sources are the same candidate, or two agree in both
+-- both sources are the same candidate, or both are an agreement
 abbrev pub AreSameCandidates : List Candidate → List Candidate → WordSource → WordSource → Type 0
 AreSameCandidates vs ws (Reading r) (Reading k) = IsSameCandidate vs ws r k
 AreSameCandidates vs ws Agreed Agreed = Unit {0}
@@ -737,7 +737,7 @@ find_bytes programs others n None (Some mended) same = absurd same
 find_bytes programs others n (Some mended) None same = absurd same
 find_bytes programs others n (Some one) (Some other) same = same.0
 
--- a function of what is found is the same for both
+-- a function of the results is the same for both
 same_map : {X : Type 0} (f : Option Mended → X) (words : ℕ) (found found' : List (Option Mended)) (d : X)
     → length found ≡ words → length found' ≡ words
     → ((n : ℕ) → n < words → f (get_or found n None) ≡ f (get_or found' n None))
@@ -761,7 +761,7 @@ reordered_text words programs others said said' found found' is mended mended' =
     (reordered words programs others said said' found found' is mended mended' n lt)))
     ∙ sym (flat_joined mended_bytes found')
 
--- ---- What is counted.
+-- ---- The counts.
 
 pub count_mapped : {X : Type 0} (p : X → Bool) (xs : List X) → count_by p xs ≡ count_by (λ b. b) (map p xs)
 count_mapped p [] = refl
@@ -779,7 +779,7 @@ same_count p words found found' size size' each =
     ∙ ap (λ bs. count_by (λ (b : Bool). b) bs) (same_map p words found found' false size size' each)
     ∙ sym (count_mapped p found')
 
--- whether a word is named by a byte that names no reading
+-- whether a source that is no reading has this number
 above_of : ℕ → WordSource → Bool
 above_of byte (Reading r) = false
 above_of byte Agreed = 254 == byte
@@ -833,7 +833,7 @@ byte_count words byte programs others said said' found found' is few high mended
     ∙ sym (named (get_or said' n []) (get_or found' n None) byte
     (omega (arith, few, size, (mended'.candidates n lt).count)) high (mended'.each n lt)))
 
--- ---- What counts for nothing.
+-- ---- The dropped codewords.
 
 mark_is : (mark left : Bool) (A : Type 0) → MatchBool mark A (¬ A) → (A → left ≡ true) → (left ≡ true → A)
     → mark ≡ left
@@ -866,7 +866,7 @@ drops_reordered words programs others r k count count' is same one other =
     ∙ sym (drop_marks words others k words count' other) in
     one.is ∙ ap (λ ms. count_by (λ (mark : Bool). mark) ms) marks ∙ sym other.is
 
--- ---- What the calls write.
+-- ---- The outputs of the calls.
 
 pub reordered_many : (count lead_in : ℕ)
     (readings others old new turned old_sources sources sources' : List ℕ)

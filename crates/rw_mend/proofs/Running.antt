@@ -25,11 +25,11 @@ text_more found f =
     flat_map-append mended_bytes found (f ∷ [])
     ∙ ap (λ l. mended_text found ++ l) (append-nil (mended_bytes f))
 
--- an element more at the end of a list
+-- one more element at the end of a list
 at_end : {X : Type 0} (xs : List X) (x d : X) (n : ℕ) → length xs ≡ n → get_or (xs ++ x ∷ []) n d ≡ x
 at_end xs x d n size = ap (λ m. get_or (xs ++ x ∷ []) m d) (sym size) ∙ get_or-append_seam xs x [] d
 
--- one word more
+-- one more word
 pub mended_next : (readings : Readings) (words n : ℕ) (before packs new : List ℕ)
     (has has' : List (List Candidate) → List (Option Mended) → Type 0) (candidates : List Candidate)
     (f : Option Mended)
@@ -114,7 +114,7 @@ ways_length [] (g ∷ found) same = absurd (omega (arith, same))
 ways_length (v ∷ said) [] same = absurd (omega (arith, same))
 ways_length (v ∷ said) (g ∷ found) same = ap (λ n. suc n) (ways_length said found (omega (arith, same)))
 
--- no count is higher than the words
+-- no count is higher than the number of words
 pub record AreFew (counts : MendCounts) (n : ℕ) : Type 0 where
   pub both : counts.both ≤ n
   pub of_first : counts.of_first ≤ n

@@ -1,4 +1,4 @@
--- Whether two codewords are the same.
+-- Whether two codewords are equal.
 use Rattle.std.proofs.Common.{◌≡◌, ◌≢◌, ◌==◌, ℕ, Bool, true, false, List, sym, ap, ◌∙◌, inl, inr}
 use Rattle.std.specs.Prelude.{nat_eq}
 use Rattle.std.specs.Cmp.Lexicographic.{other_text, pointwise, same_text}
@@ -19,14 +19,14 @@ other_is one other word word' differ =
       | inr more ↦ sym more.0
     ]
 
--- the bytes of two words are told to be the same,
+-- the comparison of the bytes of two words says that they are equal,
 pub told_same : (one other bytes bytes' : List ℕ) (told : Bool) → bytes ≡ one → bytes' ≡ other
     → told ≡ pointwise nat_eq bytes bytes' → told ≡ true
     → one ≡ other
 told_same one other bytes bytes' told is is' tells same =
     sym is ∙ same_text bytes bytes' (sym same ∙ tells) ∙ is'
 
--- or not
+-- or that they are not
 pub told_other : (one other bytes bytes' : List ℕ) (told : Bool) → bytes ≡ one → bytes' ≡ other
     → told ≡ pointwise nat_eq bytes bytes' → told ≡ false
     → one ≢ other

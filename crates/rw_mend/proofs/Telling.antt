@@ -1,4 +1,4 @@
--- What is told of the words of readings, one by one.
+-- The reports on the words of readings, word by word.
 use Rattle.std.proofs.Common.{◌≡◌, ◌≢◌, ◌==◌, ℕ, ◌+◌, ◌<◌, ◌≤◌, Bool, true, false, List, [], ◌∷◌, ◌++◌, length, map, get_or, take, drop, replicate, sym, ap, ap₂, ◌∙◌, inl, inr, arith, length-append}
 use Rattle.std.specs.Prelude.{IfSome, Some, None}
 use Rattle.std.proofs.lemmas.List.Sums.{count_by-le-length}
@@ -94,7 +94,7 @@ told_more before words n sources new old more candidates f lt same put counted s
           (ap (λ m. drop m before) (sym (length-append found (f ∷ []) ∙ omega (arith, size))));
     }
 
--- no tally is higher than the words
+-- no tally is higher than the number of words
 pub tally_few : (before : List ℕ) (words n : ℕ) (sources : List ℕ) (tallies : Tallies)
     (said : List (List Candidate))
     (found : List (Option Mended)) → length found ≡ n → AreTold before words sources tallies said found
@@ -122,7 +122,7 @@ no_tallies counts agreed none reserved reading = record {
   kept = ap length reading;
 }
 
--- what is counted of dropped packs has no part in it
+-- the tallies do not depend on the counts of dropped packs
 pub with_dropped : (found : List (Option Mended)) (old new : Tallies) → new.agreed ≡ old.agreed
     → new.none ≡ old.none → new.reserved ≡ old.reserved → new.of_reading ≡ old.of_reading
     → AreTallies found old → AreTallies found new
@@ -139,7 +139,7 @@ source_of : (candidates : List Candidate) (source : WordSource) (codeword : List
 source_of candidates (Reading r) codeword few is = omega (arith, is.0.within, few)
 source_of candidates Agreed codeword few is = tt
 
--- a source that comes of mending can be counted
+-- the source of a mended word can be counted
 pub has_source : (candidates : List Candidate) (found : Option Mended) → length candidates ≤ 254
     → IsMending candidates found
     → IfSome found (λ mended. HasSource mended.source)

@@ -23,7 +23,7 @@ pub reading-coverage : (program : List ℕ) (n : ℕ)
 unfolding reading_at
 reading-coverage program n = refl
 
--- all blocks are unread where nothing was read
+-- if nothing was read, all blocks are unread
 unread_all : (all any : Bool) → (if all then Unread else (if any then Partly else Whole)) ≡ Unread
     → all ≡ true
 unread_all true any is = refl
@@ -38,7 +38,7 @@ both_hold : (a b : Bool) → a ≡ true → b ≡ true → (a && b) ≡ true
 both_hold true b is is' = is'
 both_hold false b is is' = is
 
--- what was not read has no symbols
+-- an unread block has no symbols
 pub unread_blank : (block : List ℕ) → is_unread_block block ≡ true → is_blank_block block ≡ true
 unread_blank [] is = refl
 unread_blank (byte ∷ rest) is =
@@ -68,7 +68,7 @@ symbol_get [] p = refl
 symbol_get (byte ∷ bytes) zero = refl
 symbol_get (byte ∷ bytes) (suc p) = symbol_get bytes p
 
--- a symbol of a block stands in its program
+-- a symbol of a block, as a symbol of its program
 pub in_block : (program : List ℕ) (b j : ℕ) → j < 96
     → get_or (symbols_of (block_at program b)) j 0 ≡ get_or (symbols_of program) (96 * b + j) 0
 in_block program b j lt =
@@ -78,7 +78,7 @@ in_block program b j lt =
     ∙ get_or-drop (96 * b) program j 0)
     ∙ sym (symbol_get program (96 * b + j))
 
--- where all blocks under a word are empty, each is
+-- if all blocks under a word are unread, each is
 empty_under : (program : List ℕ) (n b : ℕ) → list_all is_unread_block (blocks_under program n) ≡ true
     → n / 4 ≤ b → b ≤ (n + 7) / 4
     → is_unread_block (block_at program b) ≡ true
@@ -131,7 +131,7 @@ unread_zero program n is =
     blank_word program n
     (λ b low high. unread_blank (block_at program b) (empty_under program n b all low high))
 
--- the same by the marks of the two or three blocks
+-- the same, from the marks of two or three blocks
 pub blank_by_blocks : (program : List ℕ) (n : ℕ) → is_blank_block (block_at program (n / 4)) ≡ true
     → is_blank_block (block_at program (n / 4 + 1)) ≡ true
     → (n % 4 ≢ 0 → is_blank_block (block_at program (n / 4 + 2)) ≡ true)
@@ -150,7 +150,7 @@ blank_by_blocks program n first second third =
           ]
     ])
 
--- the codeword near no symbols is the idle pack
+-- the only codeword near a word of zeros is the idle pack
 idle_alone : (codeword : List ℕ) → IsWord (replicate 24 0) → Reads (replicate 24 0) codeword
     → codeword ≡ replicate 24 0
 idle_alone codeword word reads =
@@ -158,7 +158,7 @@ idle_alone codeword word reads =
     only_one_near zeros codeword zeros word reads
     ((idle_near zeros zeros 0 refl (sym (differences_self zeros)) (omega arith)).0)
 
--- where nothing was read the only codeword near the word is the idle pack
+-- if nothing was read, the only codeword near the word is the idle pack
 pub idle_where_unread : (program : List ℕ) (n : ℕ) (codeword : List ℕ)
     → Reads ((reading_at program n).word) codeword → (reading_at program n).coverage ≡ Unread
     → codeword ≡ replicate 24 0

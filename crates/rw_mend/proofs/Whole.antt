@@ -1,4 +1,4 @@
--- A reading in which every word is error-free comes out whole, also where its idle stretches count as unread.
+-- Every codeword of an error-free reading is chosen, also if idle blocks of it count as unread.
 use Rattle.std.proofs.Common.{◌≡◌, ℕ, ◌<◌, true, List, [], length, get_or, refl, sym, ap, ◌∙◌, subst, subst₂, inl, inr, arith, Some, None}
 use Rattle.std.specs.declared.option.Option.{Option}
 use Rattle.std.proofs.lemmas.Bool.{false≢true}
@@ -29,7 +29,7 @@ quiet_sure candidate quiet doubtful =
     let odd = doubtful_are candidate doubtful in
     false≢true (sym odd.3 ∙ ap is_quiet_candidate (sym odd.2) ∙ quiet)
 
--- what an error-free reading gives as the idle pack is its idle pack
+-- a candidate of an error-free reading that is the idle pack is its own codeword
 own_idle : (words : ℕ) (programs : List (List ℕ)) (r m : ℕ) (is : IsErrorFreeBeside words programs r)
     → m < words → is_idle_candidate (given_at programs r m) ≡ true → is_idle_pack (is.codeword m) ≡ true
 own_idle words programs r m is lt idle =
@@ -38,7 +38,7 @@ own_idle words programs r m is lt idle =
       | inr unread ↦ ap is_idle_pack unread.1 ∙ idle_is
     ]
 
--- nothing of an error-free reading counts for nothing
+-- no codeword of an error-free reading is dropped
 free_kept : (words : ℕ) (programs : List (List ℕ)) (r n : ℕ) → IsErrorFreeBeside words programs r → n < words
     → ¬ IsDropped words programs r n
 free_kept words programs r n is lt (inl lacking) =
@@ -55,7 +55,7 @@ free_kept words programs r n is lt (inr doubted) =
       | inr unread ↦ quiet_sure (given_at programs r n) unread.0 doubted.doubtful
     ]
 
--- another error-free codeword that is said beside an error-free one is the same
+-- beside an error-free reading, another error-free candidate is the same codeword
 free_clean : (words : ℕ) (programs : List (List ℕ)) (r n s : ℕ) (candidate : Candidate) (other : List ℕ)
     (is : IsErrorFreeBeside words programs r) → n < words → s < length programs
     → given_at programs r n ≡ Near (is.codeword n) 0 → IsSaid words programs n s candidate
@@ -93,7 +93,7 @@ not_silent Silent codeword agreed = agreed
 not_silent (Lost word) codeword agreed = agreed
 not_silent (Near pack doubts) codeword agreed = agreed
 
--- two candidates that agree are what their readings give
+-- two candidates that agree are the candidates of their readings
 lost_agreed : (words : ℕ) (programs : List (List ℕ)) (n s t : ℕ) (one other : Candidate) (codeword : List ℕ)
     → IsSaid words programs n s one → IsSaid words programs n t other → AreAgreed one other codeword
     → ¬ ¬ AreAgreed (given_at programs s n) (given_at programs t n) codeword
@@ -104,7 +104,7 @@ lost_agreed words programs n s t one other codeword (inr (kept, given)) (inl (dr
 lost_agreed words programs n s t one other codeword (inr (kept, given)) (inr (kept', given')) agreed none =
     none (subst₂ (λ a b. AreAgreed a b codeword) given given' agreed)
 
--- no two readings agree where it is quiet
+-- no two readings agree at a word at which the error-free reading is quiet
 no_agreement : (words : ℕ) (programs : List (List ℕ)) (r n : ℕ) (candidates : List Candidate)
     (codeword : List ℕ)
     (own : Candidate) → own ≡ given_at programs r n → IsErrorFreeBeside words programs r → n < words
@@ -129,7 +129,7 @@ no_agreement words programs r n candidates codeword Silent same is lt quiet are 
     (are.each s first) (are.each t within) pair.agreed
     (is.alone n s t codeword lt (sym same))
 
--- where it is quiet nothing but the idle pack is found
+-- at such a word, only the idle pack can be the result
 quiet_found : (words : ℕ) (programs : List (List ℕ)) (r n : ℕ) (candidates : List Candidate)
     (source : WordSource)
     (codeword : List ℕ) → IsErrorFreeBeside words programs r → n < words

@@ -1,4 +1,4 @@
--- How often the ends of both inputs were told and reads of them filled, since the beginning.
+-- How often both inputs reported their ends and filled a read, since the beginning.
 use Rattle.std.proofs.Common.{◌≡◌, ◌++◌, ◌+◌, ◌*◌, ◌/◌, ◌<◌, ◌≤◌, ◌∙◌, ℕ, List, length, subst, inl, inr, arith, length-append}
 use Rattle.cdg_io.specs.Causes.{Count}
 use Rattle.cdg_io.specs.Change.{from_to}
@@ -10,7 +10,7 @@ use Rattle.rw_merge.specs.Merging.{EndsAtStop, ToldUnlessAhead, full_reads}
 use Rattle.rw_merge.specs.declared.merge.MergeStop.{MergeStop}
 use Rattle.rw_merge.specs.declared.merge.MergeStop.TheVariants.{FirstFault, SecondFault, WriteFault, TooLong, Torn, SecondTorn, Unequal}
 
--- no end was told before, and as much was taken of both
+-- no end was reported before, and the same number of bytes was consumed from both inputs
 module _ (n n' n'' m m' m'' : Count) (same : n' ≡ n) (same' : m' ≡ m) (base a b u v : ℕ) (a_is : a ≡ base + u)
     (b_is : b ≡ base + v) where
   ahead_since : ToldUnlessAhead u v (from_to n' n'') → ToldUnlessAhead a b (from_to n n'')
@@ -32,7 +32,7 @@ module _ (n n' n'' m m' m'' : Count) (same : n' ≡ n) (same' : m' ≡ m) (base 
   stop_since (Unequal blocks) (inr (less, untold, told)) =
       inr (omega (arith, less, a_is, b_is), untold ∙ same, rose_once_since same' told)
 
--- a block more was read
+-- one more block was read
 pub block_more : (block : ℕ) (us : List ℕ) (before now last : Count) → length us ≡ 96
     → RoseBy block before now → RoseBy (length us / 96) now last
     → RoseBy (block + 1) before last
@@ -40,7 +40,7 @@ block_more block us before now last size rose more =
     let all : block + length us / 96 ≡ block + 1 = omega (arith, size) in
     subst (λ (n : ℕ). RoseBy n before last) all (some_more block (length us / 96) before now last rose more)
 
--- a block more was asked for
+-- one more block was requested
 pub blocks_filled : (block : ℕ) (xs us : List ℕ) (before now last : Count) → length xs ≡ block * 96
     → length us ≤ 96 → block < most_units → RoseBy block before now → RoseBy (length us / 96) now last
     → RoseBy (full_reads (length (xs ++ us))) before last
@@ -49,7 +49,7 @@ blocks_filled block xs us before now last size few lt rose more =
     let all : block + length us / 96 ≡ full_reads (length (xs ++ us)) = omega (arith, bytes, few, lt) in
     subst (λ (n : ℕ). RoseBy n before last) all (some_more block (length us / 96) before now last rose more)
 
--- a byte after all blocks was asked for
+-- one more byte was requested after all blocks
 pub byte_filled_after : (block : ℕ) (xs us : List ℕ) (before now last : Count) → length xs ≡ block * 96
     → length us ≤ 1 → block ≡ most_units → RoseBy block before now → RoseBy (length us) now last
     → RoseBy (full_reads (length (xs ++ us))) before last

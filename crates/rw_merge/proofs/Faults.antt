@@ -1,4 +1,4 @@
--- What the counts of faults say, count by count.
+-- The fault counts, count by count.
 use Rattle.std.proofs.Common.{◌≡◌, ℕ, ◌≤◌, ◌∙◌, refl, arith}
 use Rattle.std.specs.Prelude.{Result, Ok, Err, IsErrOf}
 use Rattle.cdg_io.specs.Causes.{Rose}
@@ -8,7 +8,7 @@ use Rattle.rw_merge.specs.declared.merge.Merged.{Merged}
 use Rattle.rw_merge.specs.declared.merge.MergeStop.{MergeStop}
 use Rattle.rw_merge.specs.declared.merge.MergeStop.TheVariants.{FirstFault, SecondFault, WriteFault, TooLong, Torn, SecondTorn, Unequal}
 
--- The count rose where the answer is the fault of its side, and else it stayed.
+-- The count rose if the answer is the fault of its side, and is unchanged otherwise.
 pub record IsCounted (A : Type 0) (count : Change ℕ) : Type 0 where
   pub later : count.before ≤ count.after
   pub fault : A → Rose count.before count.after
@@ -57,7 +57,7 @@ out_counted (Err (Torn n)) first second out (f, s, o) = stayed out (λ e. (cc)) 
 out_counted (Err (SecondTorn n)) first second out (f, s, o) = stayed out (λ e. (cc)) o
 out_counted (Err (Unequal n)) first second out (f, s, o) = stayed out (λ e. (cc)) o
 
--- What the last reads of a merge counted is all that it counted, where each count stayed until then.
+-- The last reads of a merge counted all faults, if each count was unchanged until then.
 pub counted_last : (A : Type 0) (first first' first'' second second' second'' out out' : ℕ) (stop : MergeStop)
     → first' ≡ first → second' ≡ second → out' ≡ out
     → CountsReadFaults {A = A} (Err stop) (from_to first' first'') (from_to second' second'')

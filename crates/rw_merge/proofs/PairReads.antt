@@ -1,4 +1,4 @@
--- How a pair of blocks is read, and how the end of both inputs is found, exit by exit.
+-- The read of a pair of blocks, and the read at the end of both inputs, for each exit.
 use Rattle.std.proofs.Common.{◌≡◌, ◌≢◌, ◌⊎◌, ◌∙◌, ℕ, ◌<◌, ◌≤◌, ◌/◌, Bool, true, false, List, [], ◌∷◌, length, take, refl, ap, subst, inl, inr, arith}
 use Rattle.std.specs.Prelude.{IfOk, Option, Result, Ok, Err}
 use Rattle.std.specs.Io.KnownBytes.{Consumes, IsAtEnd}
@@ -23,7 +23,7 @@ unread left ends fills =
       counts = record { ends = from_to ends ends; fills = from_to fills fills };
     }
 
--- what `fill` says of a source, which was not read before
+-- the clauses of `fill`, for a source that was not read before
 pub asks_as : {S E : Type 0} (source : Source S) (before same after : S) (result : Result ℕ E) (size : ℕ)
     (old room : List ℕ) → same ≡ before → length old ≡ size → length room ≡ size
     → IfOk result (λ n. Consumes (source.left same) (source.left after) (take n room))
@@ -51,15 +51,15 @@ none_taken n room none = ap (λ k. take k room) none
 pub is_none : (n : ℕ) → n ≤ 0 → n ≡ 0
 is_none n le = omega arith
 
--- a whole block was taken, or nothing at the end
+-- a whole block was consumed, or nothing
 abbrev pub IsWholeOrNone : ℕ → Type 0
 IsWholeOrNone n = (n ≡ 0) ⊎ (96 ≤ n)
 
--- no read was filled by fewer bytes than it asked for
+-- if fewer bytes came than were requested, no read was filled
 none_filled : (k : ℕ) (before now : Count) → k ≡ 0 → now ≡ before → RoseBy k before now
 none_filled k before now none same = (λ _. same, λ some. absurd (omega (arith, some, none)))
 
--- and one by all of them
+-- if all of them came, one read was filled
 one_filled : (k : ℕ) (before now : Count) → k ≡ 1 → now ≡ counted_up 1 before → RoseBy k before now
 one_filled k before now one rose = (
   λ none. absurd (omega (arith, none, one)),
@@ -79,7 +79,7 @@ module _ {E : Type 0} {size n : ℕ} {input : ReadInput} {faults : Change ℕ} {
         | inr full ↦ one_filled k _ _ (one full) (a.counts.room.full full)
       ]
 
-  -- nothing was taken at the end
+  -- nothing was consumed at the end
   unless_ahead_none : n ≡ 0 → 0 < size → (m : ℕ) → ToldUnlessAhead (length (take n room)) m input.counts.ends
   unless_ahead_none none some m = (
     λ most. a.counts.end.ended (omega (arith, none, some)),
@@ -97,7 +97,7 @@ module _ {E : Type 0} {n : ℕ} {input : ReadInput} {faults : Change ℕ} {room 
   half_read (inl none) = inr (none_taken n room none, a.end (omega (arith, none)))
   half_read (inr whole) = inl (omega (arith, whole, a.within, size_taken a))
 
-  -- less than a block was taken of the other input
+  -- less than a block was consumed from the other input
   unless_ahead : IsWholeOrNone n → (m : ℕ) → m < 96
       → ToldUnlessAhead (length (take n room)) m input.counts.ends
   unless_ahead (inl none) m short = unless_ahead_none a none (omega arith) m
@@ -284,7 +284,7 @@ module _ {E : Type 0} (block : ℕ) {first second : ReadInput} {f s : Change ℕ
     other_filled = block_filled b;
   }
 
--- ---- The end of both.
+-- ---- The end of both inputs.
 
 nothing : (bytes : List ℕ) → length bytes < 1 → bytes ≡ []
 nothing [] short = refl

@@ -1,4 +1,4 @@
--- Positions at which two readings are equal and both wrong, and those at which they differ.
+-- The positions at which two readings are equal and both wrong, and those at which they differ.
 use Rattle.std.proofs.Common.{◌≡◌, ◌≢◌, ℕ, zero, suc, ◌+◌, ◌*◌, ◌<◌, ◌≤◌, ◌==◌, cond, List, [], ◌∷◌, length, get_or, take, drop, refl, sym, ap, ap₂, ◌∙◌, inl, inr, eq-eqb, ne_eqb, add-one, arith}
 use Rattle.std.proofs.lemmas.Bool.Decides.{eqb_tells}
 use Rattle.std.proofs.lemmas.List.{drop_all}
@@ -7,7 +7,7 @@ use Rattle.rw_code.proofs.Differing.{at_most_one, differences_self, differences_
 use Rattle.rw_code.proofs.Independent.{same_from_sums}
 use Rattle.rw_merge.specs.Agreement.{IsAgreed, equally_wrong}
 
--- what two words differ in, one of the readings has wrong
+-- at each position at which two words differ, one of the readings is wrong, or the readings differ
 differences_between : (xs ys ws vs : List ℕ) → length xs ≡ length ys → length xs ≡ length ws
     → length xs ≡ length vs
     → differences ws vs ≤ equally_wrong xs ys ws + equally_wrong xs ys vs + differences xs ys
@@ -34,7 +34,7 @@ differences_between (x ∷ xs) (y ∷ ys) (w ∷ ws) (v ∷ vs) ys_size ws_size 
       | inr (x_is_y, differ_xy) ↦ rw x_is_y (omega (arith, at_most_one (w == v)))
     ]
 
--- For no two words are two codewords agreed.
+-- Two codewords cannot both be agreed for the same two words.
 pub only_one_agreed : (xs ys w v : List ℕ) → IsWord xs → IsWord ys → IsAgreed xs ys w → IsAgreed xs ys v
     → w ≡ v
 only_one_agreed xs ys w v xs_word ys_word w_agreed v_agreed =
@@ -48,7 +48,7 @@ only_one_agreed xs ys w v xs_word ys_word w_agreed v_agreed =
     (omega (arith, apart, w_agreed.few, v_agreed.few))
     (λ j lt. w_agreed.is_codeword.whole j lt ∙ sym (v_agreed.is_codeword.whole j lt))
 
--- where no symbol is equally wrong, equal symbols are right
+-- if no symbol is equally wrong, equal symbols are right
 pub right_where_equal : (xs ys ws : List ℕ) (i : ℕ) → length xs ≡ length ys → length xs ≡ length ws
     → equally_wrong xs ys ws ≡ 0 → i < length xs
     → get_or xs i 0 ≡ get_or ys i 0 → get_or xs i 0 ≡ get_or ws i 0
@@ -78,7 +78,7 @@ first_one : (x y w : ℕ) (xs ys ws : List ℕ)
 first_one x y w xs ys ws rest zero lt ne equal = absurd (ne refl)
 first_one x y w xs ys ws rest (suc i) lt ne equal = rest i (omega arith) equal
 
--- where at most one symbol is equally wrong, equal symbols are right but at one position
+-- if at most one symbol is equally wrong, equal symbols are right except at one position
 pub right_but_at_one : (xs ys ws : List ℕ) → length xs ≡ length ys → length xs ≡ length ws
     → equally_wrong xs ys ws ≤ 1
     → (f : ℕ)
@@ -109,7 +109,7 @@ right_but_at_one (x ∷ xs) (y ∷ ys) (w ∷ ws) ys_size ws_size few =
           ]
     ]
 
--- two equal readings are wrong where one is
+-- two equal readings are equally wrong at each wrong position
 pub equally_wrong_self : (xs ws : List ℕ) → length xs ≡ length ws → equally_wrong xs xs ws ≡ differences xs ws
 unfolding equally_wrong differences
 equally_wrong_self [] ws size = refl
@@ -117,7 +117,7 @@ equally_wrong_self (x ∷ xs) [] size = absurd (omega arith)
 equally_wrong_self (x ∷ xs) (w ∷ ws) size =
     let rest = equally_wrong_self xs ws (omega arith) in rw (eq-eqb x x refl) (omega arith)
 
--- what is wrong in two readings, each by itself
+-- the numbers of wrong symbols in each of two readings, added
 pub doubts_of_both : (ws xs ys : List ℕ) → length ws ≡ length xs → length ws ≡ length ys
     → 2 * equally_wrong xs ys ws + differences xs ys ≤ differences ws xs + differences ws ys
 unfolding equally_wrong differences
@@ -149,7 +149,7 @@ doubts_of_both (w ∷ ws) (x ∷ xs) (y ∷ ys) xs_size ys_size =
 
 -- ---- From a position on.
 
--- a position more, where the words are equal and where they differ
+-- one more position, if the words are equal there and if they differ
 pub differences_from : (xs ys : List ℕ) (i : ℕ) → length xs ≡ length ys → i < length xs
     → differences (drop i xs) (drop i ys)
     ≡ cond (get_or xs i 0 == get_or ys i 0) 0 1 + differences (drop (suc i) xs) (drop (suc i) ys)
@@ -197,7 +197,7 @@ equally_wrong_more (x ∷ xs) (y ∷ ys) (w ∷ ws) (suc i) y_size w_size lt =
     let rest = equally_wrong_more xs ys ws i (omega arith) (omega arith) (omega arith) in
     omega arith
 
--- what stands against a word up to a position
+-- the number of symbols against a word, up to a position
 abbrev pub doubts_to : ℕ → List ℕ → List ℕ → List ℕ → ℕ
 doubts_to i xs ys ws =
     2 * equally_wrong (take i xs) (take i ys) (take i ws) + differences (take i xs) (take i ys)
@@ -237,7 +237,7 @@ doubts_right xs ys ws i y_size w_size lt equal right =
 
 -- ---- Equal readings.
 
--- a codeword is agreed for two equal readings where it is near
+-- a near codeword is agreed for two equal readings
 pub agreed_equal : (xs ys ws : List ℕ) → IsWord xs → xs ≡ ys → Reads xs ws → IsAgreed xs ys ws
 agreed_equal xs ys ws x_word same reads =
     let size = x_word.size ∙ sym reads.is_codeword.is_word.size in
@@ -253,7 +253,7 @@ reads_agreed xs ys ws x_word same agreed =
     ap (λ l. equally_wrong xs l ws) (sym same) ∙ equally_wrong_self xs ws size in
     record { is_codeword = agreed.is_codeword; is_near = omega (arith, wrong, agreed.few) }
 
--- ---- A reading against which only its differences from the other stand.
+-- ---- A reading of which a codeword differs only where it differs from the other reading.
 
 wrong_nowhere : (x y : ℕ) → ◌≡◌ {A = ℕ} (cond (x == y) (cond (x == x) 0 1) 0) 0
 wrong_nowhere x y =

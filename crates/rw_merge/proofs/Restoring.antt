@@ -1,4 +1,4 @@
--- What comes back of a stream that was read twice.
+-- The packs that are recovered from a stream that was read twice.
 use Rattle.std.proofs.Common.{◌≡◌, ℕ, zero, suc, ◌+◌, ◌-◌, ◌*◌, ◌/◌, ◌<◌, ◌≤◌, List, [], ◌∷◌, ◌++◌, length, drop, get_or, map, refl, sym, ap, ◌∙◌, subst, subst₂, inl, inr, arith, append-nil, None, Some, IfSome, Result, Ok, Err}
 use Rattle.std.specs.Prelude.{All}
 use Rattle.std.specs.declared.option.Option.{Option}
@@ -37,7 +37,7 @@ words_of_bytes : (lead_in : ℕ) (bytes : List ℕ) (n : ℕ)
 words_of_bytes lead_in bytes n =
     form_words Raw (program_symbols Raw bytes lead_in) n (small_symbols (drop lead_in (blocks_of Raw bytes)))
 
--- what is found where a codeword is agreed is that one
+-- if a codeword is agreed, the result is this codeword
 found_agreed : (xs ys w : List ℕ) (f : Option (List ℕ)) → IsWord xs → IsWord ys → IsAgreed xs ys w
     → IsAgreement xs ys f
     → f ≡ Some w
@@ -55,14 +55,14 @@ none_agreed : (xs ys : List ℕ) (f : Option (List ℕ)) → IsAgreement xs ys f
 none_agreed xs ys None is none = refl
 none_agreed xs ys (Some w) is none = absurd (none w is)
 
--- what is found for two words is one thing
+-- two words have only one result
 one_agreement : (xs ys : List ℕ) (f g : Option (List ℕ)) → IsWord xs → IsWord ys → IsAgreement xs ys f
     → IsAgreement xs ys g
     → f ≡ g
 one_agreement xs ys f None x_word y_word is none = none_agreed xs ys f is none
 one_agreement xs ys f (Some w) x_word y_word is agreed = found_agreed xs ys w f x_word y_word agreed is
 
--- so what is found for two readings is one list, and their text is one
+-- so two readings have only one list of results and one text
 pub one_text : (lead_in : ℕ) (first second text other : List ℕ) (bad count : ℕ)
     → IsMergedText lead_in first second text bad → IsMergedText lead_in first second other count
     → (text ≡ other) × (bad ≡ count)
@@ -105,7 +105,7 @@ packs_found lead_in blocks packs first second text bad twice merged =
     (words_of_bytes lead_in second n) agreed (found.each n in_packs)
     ∙ sym (get_or-map (λ pack. Some pack) packs n [] None (omega (arith, in_packs, carries.count))))
 
--- damage of at most two symbols a word in each reading leaves enough in both
+-- if each reading has at most two wrong symbols in each word, both readings have enough
 pub enough_of_both : (lead_in blocks : ℕ) (packs : List (List ℕ)) (first second : List ℕ)
     → IsDamagedTwice lead_in blocks packs first second
     → IsReadTwice lead_in blocks packs first second
@@ -135,11 +135,11 @@ enough_of_both lead_in blocks packs first second damaged =
           );
     }
 
--- what was taken to the end is all
+-- the bytes consumed up to the end are all bytes
 all_taken : (all rest taken : List ℕ) → all ≡ taken ++ rest → rest ≡ [] → taken ≡ all
 all_taken all rest taken is none = sym (is ∙ ap (λ l. taken ++ l) none ∙ append-nil taken)
 
--- what the law on two readings says
+-- the law about two readings
 abbrev pub GivesPacks : Type 0
 GivesPacks = (lead_in blocks : ℕ) (packs : List (List ℕ)) (first second text : List ℕ) (bad : ℕ)
     → IsReadTwice lead_in blocks packs first second → IsMergedText lead_in first second text bad

@@ -1,4 +1,4 @@
--- Bytes that are cut into blocks and slots.
+-- Bytes cut into blocks and slots.
 use Rattle.std.proofs.Common.{◌≡◌, ℕ, zero, suc, ◌+◌, ◌-◌, ◌*◌, ◌/◌, ◌%◌, ◌<◌, List, [], ◌∷◌, ◌++◌, length, take, drop, map, flat_map, refl, sym, ap, ap₂, ◌∙◌, arith}
 use Rattle.std.specs.List.{concat, AllByRecursion}
 use Rattle.std.proofs.Math.Nat.{suc-mul}
@@ -12,7 +12,7 @@ use Rattle.raw_subcode.specs.declared.form.Form.TheVariants.{Raw}
 use Rattle.rw_interleave.specs.Windows.{slot_in, slots_in}
 use Rattle.rw_merge.specs.Steps.{leading_slots}
 
--- a slot of a block, as a window takes it
+-- a slot of a block, as a window reads it
 slot_is : (block rest : List ℕ) (k : ℕ) → length block ≡ 96 → k < 4 → rest ≡ drop (24 * k) block
     → symbols_of (take 24 rest) ≡ slot_in block k
 unfolding slot_in
@@ -26,7 +26,7 @@ slot_is block rest k size lt rest_is =
     ∙ ap (λ byte. byte % 64)
     (get_or-take 24 rest n 0 n_lt ∙ ap (λ l. slice_index l n) rest_is ∙ get_or-drop (24 * k) block n 0))
 
--- the slots of a block, as a window takes them
+-- the slots of a block, as a window reads them
 pub slots_taken : (block : List ℕ) → length block ≡ 96 → slots_in block 0 4 ≡ leading_slots 4 block
 unfolding slots_in
 slots_taken block size =
@@ -44,7 +44,7 @@ pub length-slots_in : (block : List ℕ) → length (slots_in block 0 4) ≡ 4
 unfolding slots_in
 length-slots_in block = refl
 
--- whole parts, and then others
+-- whole parts, followed by others
 parts-append : (size n m : ℕ) (xs ys : List ℕ) → length xs ≡ n * size
     → parts (n + m) size (xs ++ ys) ≡ parts n size xs ++ parts m size ys
 parts-append size zero m xs ys fits =
@@ -66,7 +66,7 @@ slots-append n m xs ys fits =
     ap (map symbols_of) (parts-append 24 n m xs ys fits)
     ∙ map-append symbols_of (parts n 24 xs) (parts m 24 ys)
 
--- slots stand together as the symbols of their bytes
+-- joined slots have the symbols of their bytes
 pub slots_together : (n : ℕ) (xs : List ℕ) → length xs ≡ n * 24 → concat (leading_slots n xs) ≡ symbols_of xs
 slots_together zero xs fits = sym (ap symbols_of (nil_from_length xs (omega (arith, fits))))
 slots_together (suc n) xs fits =
@@ -86,7 +86,7 @@ slots_sized (suc n) xs fits = (
   slots_sized n (drop 24 xs) (length-drop 24 xs ∙ omega (arith, fits)),
 )
 
--- the symbols of blocks after the first
+-- the symbols of all blocks except the first ones
 blocks_symbols : (n l k : ℕ) (bytes : List ℕ) → length bytes ≡ n * 96 → k ≡ l * 96
     → flat_map symbols_of (drop l (map (block_of Raw) (parts n 96 bytes))) ≡ symbols_of (drop k bytes)
 blocks_symbols zero l k bytes size at =

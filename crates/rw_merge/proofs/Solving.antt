@@ -1,4 +1,4 @@
--- The errors between a word and a codeword, and the word with errors put right.
+-- The errors between a word and a codeword, and the word with corrected errors.
 use Rattle.std.proofs.Common.{◌≡◌, ◌≢◌, ℕ, zero, suc, ◌*◌, ◌<◌, List, [], ◌∷◌, length, get_or, set, bit_xor, refl, sym, ap, ap₂, ◌∙◌, subst, inl, inr, arith}
 use Rattle.std.specs.Int.Bits.{xor_self, xor_zero_r}
 use Rattle.std.proofs.lemmas.Nat.{xor_lt}
@@ -11,7 +11,7 @@ use Rattle.rw_merge.specs.Elimination.{ArePlacedErrors, AreFirstSums}
 use Rattle.rw_merge.specs.Places.{AreEqualOutside}
 use Rattle.rw_merge.specs.declared.elimination.WordSums.{WordSums}
 
--- at each position the sum of both symbols
+-- the sum of both symbols at each position
 unfoldable pub gaps : List ℕ → List ℕ → List ℕ
 gaps [] ys = []
 gaps (x ∷ xs) [] = []
@@ -64,7 +64,7 @@ pub gap_at : (xs ws : List ℕ) (i : ℕ) → IsWord xs → IsWord ws → i < 24
 gap_at xs ws i x_word w_word lt =
     get_or-gaps xs ws i 0 (x_word.size ∙ sym w_word.size) (omega (arith, x_word.size))
 
--- The errors of a word, where a codeword is equal to it outside of some positions.
+-- The errors of a word, if a codeword equals it outside of some positions.
 pub errors_of : (sums : WordSums) (places xs ws : List ℕ) → IsWord xs → IsCodeword ws → AreFirstSums 4 xs sums
     → AreEqualOutside places xs ws
     → ArePlacedErrors sums places (gaps xs ws)
@@ -88,14 +88,14 @@ errors_of sums places xs ws x_word is_codeword are equal =
           ∙ xor_self (get_or ws i 0);
     }
 
--- And back.
+-- And the other way round.
 pub equal_from_errors : (sums : WordSums) (places xs ws : List ℕ) → IsWord xs → IsWord ws
     → ArePlacedErrors sums places (gaps xs ws)
     → AreEqualOutside places xs ws
 equal_from_errors sums places xs ws x_word w_word are i lt out =
     sum_cancel (get_or xs i 0) (get_or ws i 0) (sym (gap_at xs ws i x_word w_word lt) ∙ are.outside i lt out)
 
--- a symbol is put right, and so one position fewer is left
+-- a symbol is corrected, so one position fewer is wrong
 pub put_right : (xs ws new places : List ℕ) (p e : ℕ) → length xs ≡ 24 → p < 24
     → AreEqualOutside (p ∷ places) xs ws → e ≡ bit_xor (get_or xs p 0) (get_or ws p 0)
     → new ≡ set xs p (bit_xor (get_or xs p 0) e) → (length new ≡ 24) × AreEqualOutside places new ws
@@ -115,11 +115,11 @@ put_right xs ws new places p e size lt equal e_is new_is =
           ],
     )
 
--- nothing is left
+-- no position is wrong
 pub all_right : (xs ws : List ℕ) → length xs ≡ 24 → IsWord ws → AreEqualOutside [] xs ws → ws ≡ xs
 all_right xs ws size w_word equal =
     sym (ext_get_or 0 xs ws (size ∙ sym w_word.size) (λ i lt. equal i (omega (arith, size)) tt))
 
--- another symbol stands as before
+-- the other symbols are unchanged
 pub unmoved : (xs new : List ℕ) (p q v : ℕ) → q ≢ p → new ≡ set xs p v → get_or new q 0 ≡ get_or xs q 0
 unmoved xs new p q v ne new_is = ap (λ l. get_or l q 0) new_is ∙ get_or-set_other xs p q v 0 ne

@@ -1,4 +1,4 @@
--- What a stop says of both inputs, where it is found as a pair of blocks or the end of both is looked for.
+-- A stop and both inputs, if it occurred while a pair of blocks or the end of both was read.
 use Rattle.std.proofs.Common.{◌≡◌, ℕ, ◌+◌, ◌*◌, ◌/◌, ◌%◌, ◌<◌, ◌≤◌, List, length, ap, ◌∙◌, inl, inr, arith, length-append}
 use Rattle.std.specs.Prelude.{Option, Some, None, Err, IfSome}
 use Rattle.std.specs.Io.KnownBytes.{Consumes, IsAtEnd}
@@ -10,7 +10,7 @@ use Rattle.rw_merge.specs.declared.merge.MergeStop.TheVariants.{FirstFault, Seco
 
 -- ---- The answer.
 
--- An input has at least as many bytes as were taken, and no more where it is at its end.
+-- An input has at least as many bytes as were consumed, and no more if it is at its end.
 pub record HasTaken (size taken : ℕ) (left : Option (List ℕ)) : Type 0 where
   pub least : taken ≤ size
   pub at_end : IsAtEnd left → size ≡ taken
@@ -90,7 +90,7 @@ end_answer lead_in blocks a b left other (Unequal n) us vs a_is b_is all read = 
 pub taken_exactly : (size taken : ℕ) (left : Option (List ℕ)) → size ≡ taken → HasTaken size taken left
 taken_exactly size taken left is = record { least = omega arith; at_end = λ end. is }
 
--- So many bytes of an input were taken, if it is known.
+-- The number of bytes that were consumed from an input whose bytes are known.
 taken_in_turn : (all xs us : List ℕ) (left' left'' : Option (List ℕ)) (n : ℕ) → Consumes (Some all) left' xs
     → Consumes left' left'' us → length xs ≡ n
     → HasTaken (length all) (n + length us) left''
@@ -101,7 +101,7 @@ taken_in_turn all xs us (Some rest) (Some more) n before now size =
     let second : length rest ≡ length us + length more = ap length now ∙ length-append us more in
     record { least = omega arith; at_end = λ end. omega (arith, ap length end) }
 
--- The answer of both whole inputs follows from what is left of them, if both are known.
+-- The answer for both whole inputs follows from what is left of them, if both are known.
 pub whole_answer : (P : ℕ → ℕ → Type 0) (left left' left'' other other' other'' : Option (List ℕ))
     (xs ys us vs : List ℕ) (n : ℕ) → Consumes left left' xs → Consumes left' left'' us
     → Consumes other other' ys
@@ -120,7 +120,7 @@ whole_answer P (Some all) left' left'' (Some every) other' other'' xs ys us vs n
     answer (length all) (length every) (taken_in_turn all xs us left' left'' n before now size)
     (taken_in_turn every ys vs other' other'' n earlier later size')
 
--- ---- The ends, where a pair of blocks is looked for.
+-- ---- The ends, while a pair of blocks is read.
 
 pub first_at_end : (blocks : ℕ) (left : Option (List ℕ)) (second : Taken) (stop : MergeStop) (us : List ℕ)
     → IsPairRead blocks (Err stop) (taken_of us left) second
@@ -144,7 +144,7 @@ second_at_end blocks first other (Torn n) vs read = tt
 second_at_end blocks first other (SecondTorn n) vs (same, half, some, part, end) = end
 second_at_end blocks first other (Unequal n) vs read = tt
 
--- ---- The same where nothing more may follow.
+-- ---- The same, if nothing more may follow.
 
 pub first_at_end_after : (left : Option (List ℕ)) (first second : Taken) (stop : MergeStop)
     → IsEndRead (Err stop) first second
@@ -168,7 +168,7 @@ second_at_end_after other first second (Torn n) read = tt
 second_at_end_after other first second (SecondTorn n) read = absurd read
 second_at_end_after other first second (Unequal n) read = tt
 
--- ---- A write that failed says nothing of the lengths.
+-- ---- A failed write says nothing about the lengths.
 
 pub write_answer : (lead_in : ℕ) (left other : Option (List ℕ))
     → IfSome left (λ xs. IfSome other (λ ys. IsAnswer lead_in (Err WriteFault) (length xs) (length ys)))

@@ -1,4 +1,4 @@
--- How the part of a position is taken out of the sums of a word, and what is left.
+-- The sums of a word after the share of a position is removed.
 use Rattle.std.proofs.Common.{◌≡◌, ◌≢◌, ℕ, zero, suc, ◌+◌, ◌-◌, ◌*◌, ◌<◌, List, [], ◌∷◌, length, get_or, set, replicate, bit_xor, refl, sym, ap, ap₂, ◌∙◌, subst, inl, inr, arith}
 use Rattle.std.specs.Int.Bits.{xor_self, xor_zero_r}
 use Rattle.std.proofs.lemmas.Nat.{xor_comm, xor_lt}
@@ -19,7 +19,7 @@ unfolding cleared
 length-cleared x [] = refl
 length-cleared x (e ∷ es) = ap suc (length-cleared x es)
 
--- the sum of the cleared word is the next sum less the power times this one
+-- the sum of the cleared word is the next sum plus x times this sum
 pub weighted_sum-cleared : (j x : ℕ) (es : List ℕ)
     → weighted_sum j (cleared x es) ≡ bit_xor (weighted_sum (suc j) es) (product x (weighted_sum j es))
 unfolding cleared weighted_sum
@@ -43,7 +43,7 @@ weighted_sum-cleared j x (e ∷ es) =
     ∙ ap (bit_xor (bit_xor (product (alpha_power (suc j * k)) e) (weighted_sum (suc j) es)))
     (sym (product-sum x (product a e) (weighted_sum j es)))
 
--- a symbol of the cleared word, which k others follow
+-- a symbol of the cleared word that k others follow
 get_or-cleared : (x : ℕ) (es : List ℕ) (i k : ℕ) → suc (i + k) ≡ length es
     → get_or (cleared x es) i 0 ≡ product (bit_xor (alpha_power k) x) (get_or es i 0)
 unfolding cleared
@@ -52,7 +52,7 @@ get_or-cleared x (e ∷ es) zero k place =
     let follow : length es ≡ k = omega arith in ap (λ n. product (bit_xor (alpha_power n) x) e) follow
 get_or-cleared x (e ∷ es) (suc i) k place = get_or-cleared x es i k (omega arith)
 
--- 24 symbols with a part taken out
+-- a cleared word has 24 symbols
 pub cleared_word : (x : ℕ) (es : List ℕ) → length es ≡ 24 → length (cleared x es) ≡ 24
 cleared_word x es size = length-cleared x es ∙ size
 
@@ -60,7 +60,7 @@ pub cleared_at : (x : ℕ) (es : List ℕ) (i : ℕ) → length es ≡ 24 → i 
     → get_or (cleared x es) i 0 ≡ product (bit_xor (alpha_power (23 - i)) x) (get_or es i 0)
 cleared_at x es i size lt = get_or-cleared x es i (23 - i) (omega arith)
 
--- the symbol at the position is 0
+-- the symbol at the cleared position is 0
 pub cleared_here : (es : List ℕ) (i : ℕ) → length es ≡ 24 → i < 24
     → get_or (cleared (alpha_power (23 - i)) es) i 0 ≡ 0
 unfolding product
@@ -89,7 +89,7 @@ get_or-zeros i =
 zero_sum : (n : ℕ) → bit_xor 0 n ≡ n
 zero_sum n = xor_comm 0 n ∙ xor_zero_r n
 
--- The sum of a word whose symbols are 0 but at one position.
+-- The sum of a word with only one symbol that is not 0.
 pub sum_of_one : (j : ℕ) (es : List ℕ) (q : ℕ) → length es ≡ 24 → q < 24
     → ((i : ℕ) → i < 24 → i ≢ q → get_or es i 0 ≡ 0)
     → weighted_sum j es ≡ product (alpha_power (j * (23 - q))) (get_or es q 0)
@@ -113,18 +113,18 @@ sum_of_one j es q size lt others =
 
 -- ---- Errors at four positions.
 
--- the word with the parts of positions taken out
+-- the word with the share of a position removed
 abbrev without : List ℕ → ℕ → List ℕ
 without es i = cleared (alpha_power (23 - i)) es
 
 without_size : (es : List ℕ) (i : ℕ) → length es ≡ 24 → length (without es i) ≡ 24
 without_size es i size = cleared_word (alpha_power (23 - i)) es size
 
--- what one position's part leaves of another's
+-- the factor of position k when the share of position i is removed
 abbrev scale : ℕ → ℕ → ℕ
 scale i k = bit_xor (alpha_power (23 - i)) (alpha_power (23 - k))
 
--- a word that is 0 outside of some positions is 0 outside of those that are left
+-- a word that is 0 outside of some positions is, without position k, 0 outside of the others
 zero_without : (es : List ℕ) (k : ℕ) (P : ℕ → Type 0) → length es ≡ 24
     → ((i : ℕ) → i < 24 → i ≢ k → P i → get_or es i 0 ≡ 0)
     → (i : ℕ) → i < 24 → P i → get_or (without es k) i 0 ≡ 0
@@ -140,7 +140,7 @@ unit k e lt =
     let no_exponent : 0 * k ≡ 0 = omega arith in
     ap (λ n. product (alpha_power n) e) no_exponent ∙ product_comm 1 e ∙ product-one e lt
 
--- the only part that is left of the sum, by which the error is found
+-- only one term of the sum remains, which gives the error
 pub error_found : (es : List ℕ) (i a b c v s d found : ℕ) → IsWord es → i < 24
     → ((k : ℕ) → k < 24 → k ≢ i → k ≢ a → k ≢ b → k ≢ c → get_or es k 0 ≡ 0)
     → v ≡ weighted_sum 0 (without (without (without es a) b) c)
@@ -190,7 +190,7 @@ error_found es i a b c v s d found is_word lt outside v_is s_is inverse found_is
 
 -- ---- Errors at two positions and at most one further.
 
--- what is left of the sums, where the further position is another one
+-- the remaining sums, if the further position is a third one
 pub further_sums : (es : List ℕ) (a b f t0 t1 : ℕ) → IsWord es → f < 24
     → ((k : ℕ) → k < 24 → k ≢ a → k ≢ b → k ≢ f → get_or es k 0 ≡ 0)
     → t0 ≡ weighted_sum 0 (without (without es a) b) → t1 ≡ weighted_sum 1 (without (without es a) b)
@@ -218,7 +218,7 @@ further_sums es a b f t0 t1 is_word lt outside t0_is t1_is =
     t1_is ∙ sum_of_one 1 es2 f size2 lt zero2 ∙ ap (λ n. product (alpha_power n) (get_or es2 f 0)) exponent in
     (zeroth ∙ at2, ap (product (alpha_power (23 - f))) zeroth ∙ sym first)
 
--- Where nothing is left, there is no error at the further position.
+-- If the remaining sum is 0, there is no error at the further position.
 pub nothing_further : (es : List ℕ) (a b f t0 t1 : ℕ) → IsWord es → a < 24 → b < 24 → f < 24 → f ≢ a → f ≢ b
     → ((k : ℕ) → k < 24 → k ≢ a → k ≢ b → k ≢ f → get_or es k 0 ≡ 0)
     → t0 ≡ weighted_sum 0 (without (without es a) b) → t1 ≡ weighted_sum 1 (without (without es a) b) → t0 ≡ 0
@@ -234,7 +234,7 @@ nothing_further es a b f t0 t1 is_word a_lt b_lt lt not_a not_b outside t0_is t1
     (powers_apart f b lt b_lt (λ e. not_b (sym e)))
     (sym sums.0 ∙ none))
 
--- Where there are no errors but at the two, nothing is left.
+-- If the only errors are at the two positions, the remaining sum is 0.
 pub nothing_left : (es : List ℕ) (a b t0 : ℕ) → IsWord es → a < 24
     → ((k : ℕ) → k < 24 → k ≢ a → k ≢ b → get_or es k 0 ≡ 0)
     → t0 ≡ weighted_sum 0 (without (without es a) b) → t0 ≡ 0
@@ -252,7 +252,7 @@ nothing_left es a b t0 is_word a_lt outside t0_is =
     ∙ ap (product (alpha_power (0 * (23 - a)))) (zero2 a a_lt tt)
     ∙ product-zero (alpha_power (0 * (23 - a)))
 
--- The power that leads from one number to another is the ratio of both.
+-- A power that turns one number into another is their ratio.
 pub power_is_ratio : (z f1 d r k : ℕ) → product z d ≡ 1 → r ≡ product f1 d
     → product (alpha_power (23 - k)) z ≡ f1
     → alpha_power (23 - k) ≡ r

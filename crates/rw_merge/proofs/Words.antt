@@ -1,4 +1,4 @@
--- What is found for the words of two readings.
+-- The results for the words of two readings.
 use Rattle.std.proofs.Common.{◌≡◌, ◌⊎◌, ℕ, zero, suc, ◌+◌, ◌-◌, ◌*◌, ◌/◌, ◌<◌, ◌≤◌, Bool, List, [], ◌∷◌, ◌++◌, length, get_or, map, take, drop, MatchOption, Some, None, refl, sym, ap, ap₂, ◌∙◌, subst, subst₂, inl, inr, arith, length-append, append-nil}
 use Rattle.std.specs.Prelude.{is_none, if◌then◌else◌}
 use Rattle.std.specs.declared.option.Option.{Option}
@@ -22,7 +22,7 @@ use Rattle.rw_merge.specs.Merging.{IsMerged, IsMergedText}
 use Rattle.rw_merge.specs.Steps.{AreAgreements, leading_slots, window_after, words_after}
 use Rattle.rw_merge.proofs.Slots.{length-slots, program_is, program_slots, slots_sized, slots_taken, slots_together}
 
--- ---- What is found, one word after another.
+-- ---- The results, one word after another.
 
 pub agreements-append : (xs ys xs' ys' : List (List ℕ)) (fs fs' : List (Option (List ℕ)))
     → AreAgreements xs ys fs → AreAgreements xs' ys' fs'
@@ -79,7 +79,7 @@ bad-append fs gs = sum_by-append _ fs gs
 
 -- ---- Windows of both readings.
 
--- both windows give a word, or neither does
+-- both windows complete a word, or neither does
 gives_both : (w v : List (List ℕ)) (s t : List ℕ) → length w ≡ length v
     → ((gather_gives w s ≡ None) × (gather_gives v t ≡ None))
     ⊎ ((gather_gives w s ≡ Some (gathered (w ++ s ∷ [])))
@@ -113,7 +113,7 @@ length-next w v s t same =
       length-drop (length (v ++ t ∷ []) - 7) (v ++ t ∷ []),
     )
 
--- windows of as many slots have as many after as many more
+-- windows with equally many slots still have equally many after equally many more
 pub length-window : (w v : List (List ℕ)) (slots others : List (List ℕ)) → length w ≡ length v
     → length slots ≡ length others
     → length (window_after w slots) ≡ length (window_after v others)
@@ -123,7 +123,7 @@ length-window w v (s ∷ ss) [] same count = absurd (omega arith)
 length-window w v (s ∷ ss) (t ∷ ts) same count =
     length-window (gather_next w s) (gather_next v t) ss ts (length-next w v s t same) (omega arith)
 
--- and as many words come with these
+-- and equally many words end with these
 pub length-words : (w v : List (List ℕ)) (slots others : List (List ℕ)) → length w ≡ length v
     → length slots ≡ length others
     → length (words_after w slots) ≡ length (words_after v others)
@@ -144,7 +144,7 @@ length-words w v (s ∷ ss) (t ∷ ts) same count =
           ∙ sym (ap (λ o. length (give o (words_after (gather_next v t) ts))) some.1)
     ]
 
--- a window that has taken a block
+-- a window after a block
 pub window_is : (w new : List (List ℕ)) (block : List ℕ) → length block ≡ 96 → new ≡ slots_after_block w block
     → new ≡ window_after w (leading_slots 4 block)
 window_is w new block size is = is ∙ ap (run_state gather_next w) (slots_taken block size)
@@ -155,7 +155,7 @@ words_are_after w block size = ap (run_gives gather_next gather_gives w) (slots_
 
 -- ---- Word by word.
 
--- What is found for the first of the words that come with a pair of blocks.
+-- The results for the first i of the words that end with a pair of blocks.
 pub record IsFoundTo (xs ys : List (List ℕ)) (i : ℕ) (text : List ℕ) (bad : ℕ) : Type 0 where
   pub found : List (Option (List ℕ))
   pub all : AreAgreements (take i xs) (take i ys) found
@@ -163,7 +163,7 @@ pub record IsFoundTo (xs ys : List (List ℕ)) (i : ℕ) (text : List ℕ) (bad 
   pub bad_is : bad ≡ bad_count found
   pub few : length found ≤ i
 
--- one pair of words more
+-- one more pair of words
 pub found_next : (xs ys : List (List ℕ)) (i : ℕ) (text new : List ℕ) (bad more : ℕ) (f : Option (List ℕ))
     → IsFoundTo xs ys i text bad → i < length xs → i < length ys
     → IsAgreement (get_or xs i []) (get_or ys i []) f → new ≡ text ++ entry_bytes f
@@ -190,7 +190,7 @@ found_next xs ys i text new bad more f before lt lt' agreement new_is more_is =
       few = omega (arith, before.few, length-append before.found (f ∷ []));
     }
 
--- all of them
+-- all pairs
 pub found_whole : (xs ys : List (List ℕ)) (i : ℕ) (text : List ℕ) (bad : ℕ) → IsFoundTo xs ys i text bad
     → i ≡ length xs → length xs ≡ length ys → i ≤ 4
     → (found : List (Option (List ℕ)))
@@ -209,7 +209,7 @@ found_whole xs ys i text bad done at same few = (
 
 -- ---- The text of whole readings.
 
--- the words that come with the slots of a program are those of its symbols
+-- the words that end with the slots of a program are those of its symbols
 words_are : (lead_in blocks : ℕ) (bytes : List ℕ) → length bytes ≡ blocks * 96
     → words_after [] (leading_slots (4 * (blocks - lead_in)) (drop (lead_in * 96) bytes))
     ≡ map (word_of (program_symbols Raw bytes lead_in)) (below (whole_packs (blocks - lead_in)))

@@ -1,4 +1,4 @@
--- A merge at work: what was taken, found and put, pair of blocks by pair of blocks.
+-- A running merge: the consumed bytes, the results and the output, pair of blocks by pair of blocks.
 use Rattle.std.proofs.Common.{◌≡◌, ◌≢◌, ◌⊎◌, ℕ, ◌+◌, ◌-◌, ◌*◌, ◌/◌, ◌%◌, ◌<◌, ◌≤◌, min, List, [], ◌++◌, length, take, drop, refl, sym, ap, ap₂, ◌∙◌, subst, subst₂, inl, inr, arith, append-nil, length-append, IfOk, Result, Ok, Err}
 use Rattle.std.specs.Prelude.{IfSome}
 use Rattle.std.specs.declared.option.Option.{Option}
@@ -24,11 +24,11 @@ use Rattle.rw_merge.proofs.Slots.{program_slots, slots-append}
 use Rattle.rw_merge.proofs.Stops.{end_answer, pair_answer, taken_exactly, whole_answer}
 use Rattle.rw_merge.proofs.Words.{agreements-append, agreements-nil, bad-append, merged_text, text-append, window_is, words_are_after}
 
--- the slots of the program blocks among so many blocks
+-- the slots of the program blocks among the first `blocks` blocks
 abbrev program_of : ℕ → ℕ → List ℕ → List (List ℕ)
 program_of lead_in blocks bytes = leading_slots (4 * (blocks - lead_in)) (drop (lead_in * 96) bytes)
 
--- What is found for so many blocks of both inputs, and the windows after them.
+-- The results for the first `blocks` blocks of both inputs, and the windows after them.
 pub record IsFound (lead_in blocks : ℕ) (xs ys : List ℕ) (w v : List (List ℕ))
     (found : List (Option (List ℕ))) : Type 0 where
   pub first_size : length xs ≡ blocks * 96
@@ -39,7 +39,7 @@ pub record IsFound (lead_in blocks : ℕ) (xs ys : List ℕ) (w v : List (List �
       (words_after [] (leading_slots (4 * (blocks - lead_in)) (drop (lead_in * 96) ys))) found
   pub few : length found ≤ 4 * blocks
 
--- These bytes were taken of both inputs, and the text of what is found for them was put.
+-- These bytes were consumed from both inputs, and the text of the results for them was written.
 pub record Works (lead_in blocks : ℕ) (left left' other other' held held' : Option (List ℕ))
     (w v : List (List ℕ)) (bad : ℕ) (xs ys : List ℕ) : Type 0 where
   pub first_taken : Consumes left left' xs
@@ -49,7 +49,7 @@ pub record Works (lead_in blocks : ℕ) (left left' other other' held held' : Op
   pub put : Appends held held' (cdg_bytes found)
   pub bad_is : bad ≡ bad_count found
 
--- what waited was passed on
+-- the waiting bytes were written
 pub works_kept : (lead_in blocks : ℕ) (left left' other other' held held' kept : Option (List ℕ))
     (w v : List (List ℕ)) (bad : ℕ) (xs ys : List ℕ)
     → Works lead_in blocks left left' other other' held held' w v bad xs ys → Keeps held' kept
@@ -96,7 +96,7 @@ works_none lead_in left other held w v w_is v_is = record {
   bad_is = refl;
 }
 
--- a block of the lead-in more
+-- one more block of the lead-in
 pub found_skipped : (lead_in blocks : ℕ) (xs ys us vs : List ℕ) (w v : List (List ℕ))
     (found : List (Option (List ℕ))) → IsFound lead_in blocks xs ys w v found → blocks < lead_in
     → length us ≡ 96 → length vs ≡ 96 → IsFound lead_in (blocks + 1) (xs ++ us) (ys ++ vs) w v found
@@ -116,7 +116,7 @@ found_skipped lead_in blocks xs ys us vs w v found f lt u_size v_size =
       few = omega (arith, f.few);
     }
 
--- a block of the program more
+-- one more block of the program
 program_more : (lead_in blocks : ℕ) (xs us : List ℕ) → length xs ≡ blocks * 96 → lead_in ≤ blocks
     → program_of lead_in (blocks + 1) (xs ++ us) ≡ program_of lead_in blocks xs ++ leading_slots 4 us
 program_more lead_in blocks xs us size le =
@@ -166,7 +166,7 @@ found_more lead_in blocks xs ys us vs w v w' v' found more f le u_size v_size w_
       few = omega (arith, f.few, few, length-append found more);
     }
 
--- what so many blocks give
+-- the text of the first `blocks` blocks
 pub found_text : (lead_in blocks : ℕ) (xs ys us vs : List ℕ) (w v : List (List ℕ))
     (found : List (Option (List ℕ))) → IsFound lead_in blocks xs ys w v found
     → GivesMergedText blocks lead_in (xs ++ us) (ys ++ vs) (cdg_bytes found)
@@ -184,7 +184,7 @@ found_text lead_in blocks xs ys us vs w v found f =
 
 -- ---- Where a merge stops.
 
--- No further pair is whole, and no write failed.
+-- No further pair of blocks is whole, and no write failed.
 pub stops : (lead_in blocks : ℕ) (left left' other other' held held' : Option (List ℕ)) (w v : List (List ℕ))
     (bad : ℕ) (xs ys us vs : List ℕ) (result : Result Merged MergeStop)
     → Works lead_in blocks left left' other other' held held' w v bad xs ys → length us ≤ 96 → length vs ≤ 96
@@ -254,7 +254,7 @@ ends lead_in blocks total left left' other other' held held' w v bad xs ys us vs
       works.put,
     )
 
--- What holds of a stop that is found where a pair or the end is looked for.
+-- A stop that occurred while a pair or the end was read.
 pub record IsShort (us vs : List ℕ) (stop : MergeStop) : Type 0 where
   pub first : length us ≤ 96
   pub second : length vs ≤ 96
@@ -327,7 +327,7 @@ short_end left other (Torn n) us vs read = absurd read
 short_end left other (SecondTorn n) us vs read = absurd read
 short_end left other (Unequal n) us vs read = absurd read
 
--- So much is taken in turn.
+-- The bytes were consumed in turn.
 whole_turns : (blocks a b : ℕ) (left : Option (List ℕ)) (us vs : List ℕ) → a ≡ blocks * 96 + length us
     → b ≡ blocks * 96 + length vs
     → IsHalfRead left us
@@ -405,7 +405,7 @@ end_stops lead_in blocks left left' left'' other other' other'' held held' w v b
     (taken_exactly a _ left'' a_is) (taken_exactly b _ other'' b_is) all read)
     (λ a b a_is b_is. end_turns blocks a b left'' other'' stop us vs a_is b_is all read) tt
 
--- The answer of both whole inputs.
+-- The answer for both whole inputs.
 pub pair_of_whole : (lead_in blocks : ℕ) (left left' left'' other other' other'' held held' : Option (List ℕ))
     (w v : List (List ℕ)) (bad : ℕ) (xs ys us vs : List ℕ) (stop : MergeStop)
     → Works lead_in blocks left left' other other' held held' w v bad xs ys → Consumes left' left'' us
@@ -456,7 +456,7 @@ both_of_whole lead_in blocks total answered left left' left'' other other' other
       total_is ∙ omega (arith, one, none),
     ))
 
--- What is found for a pair of program blocks, and its text.
+-- The results for a pair of program blocks, and their text.
 pub record IsPairFound (w v : List (List ℕ)) (us vs : List ℕ) (w' v' : List (List ℕ)) (text : List ℕ)
     (bad : ℕ) : Type 0 where
   pub first_window : w' ≡ window_after w (leading_slots 4 us)
@@ -467,7 +467,7 @@ pub record IsPairFound (w v : List (List ℕ)) (us vs : List ℕ) (w' v' : List 
   pub bad_is : bad ≡ bad_count found
   pub few : length found ≤ 4
 
--- a pair of program blocks more
+-- one more pair of program blocks
 pub works_more : (lead_in blocks : ℕ)
     (left left' left'' other other' other'' held held' held'' : Option (List ℕ)) (w v w' v' : List (List ℕ))
     (bad more : ℕ) (xs ys us vs text : List ℕ)
@@ -492,7 +492,7 @@ works_more lead_in blocks left left' left'' other other' other'' held held' held
           total_is ∙ ap₂ (λ m n. m + n) works.bad_is pair.bad_is ∙ sym (bad-append works.found pair.found);
     }
 
--- a pair of blocks of the lead-in more
+-- one more pair of blocks of the lead-in
 pub works_skipped : (lead_in blocks : ℕ) (left left' left'' other other' other'' held held' : Option (List ℕ))
     (w v : List (List ℕ)) (bad : ℕ) (xs ys us vs : List ℕ)
     → Works lead_in blocks left left' other other' held held' w v bad xs ys → Consumes left' left'' us
@@ -555,7 +555,7 @@ write_stops lead_in blocks left left' other other' held held' held'' w v w' v' b
       );
     }
 
--- what the code finds for the blocks that it read
+-- the results of the code for the blocks that it read
 pub pair_found : (w v : List (List ℕ)) (one other us vs : List ℕ) (w' v' w'' v'' : List (List ℕ))
     (text bytes : List ℕ) (bad : ℕ) → us ≡ one → vs ≡ other → length us ≡ 96 → length vs ≡ 96
     → w'' ≡ w' → v'' ≡ v' → bytes ≡ text

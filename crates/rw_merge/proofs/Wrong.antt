@@ -1,4 +1,4 @@
--- Where the first of two readings may be wrong.
+-- The positions at which the first of two readings may be wrong.
 use Rattle.std.proofs.Common.{◌≡◌, ◌≢◌, ◌⊎◌, ℕ, ◌+◌, ◌-◌, ◌<◌, ◌≤◌, List, [], ◌∷◌, get_or, sym, ap, ◌∙◌, subst, MatchOption, Some, None, inl, inr, arith}
 use Rattle.std.proofs.lemmas.Bool.{cases_eq, cases_lt}
 use Rattle.std.specs.declared.option.Option.{Option}
@@ -32,7 +32,7 @@ from_next from i places xs ys next rest k le lt out =
 
 -- ---- Codewords that are agreed.
 
--- where the readings differ at three positions or more, all equal symbols are right
+-- if the readings differ in at least three positions, all equal symbols are right
 pub agreed_many : (places xs ys ws : List ℕ) → IsWord xs → IsWord ys → 3 ≤ differences xs ys
     → AreEqualOutside places xs ys → IsAgreed xs ys ws
     → AreEqualOutside places xs ws
@@ -41,7 +41,7 @@ agreed_many places xs ys ws x_word y_word many equal agreed i lt out =
     (x_word.size ∙ sym agreed.is_codeword.is_word.size) (omega (arith, many, agreed.few))
     (omega (arith, x_word.size)) (equal i lt out)
 
--- else they are right but at one position
+-- otherwise they are right except at one position
 pub agreed_few : (p q : ℕ) (xs ys ws : List ℕ) → IsWord xs → IsWord ys → 0 < differences xs ys
     → ((i : ℕ) → i < 24 → i ≢ p → i ≢ q → get_or xs i 0 ≡ get_or ys i 0) → IsAgreed xs ys ws
     → (f : ℕ) × AreEqualOutside (p ∷ q ∷ f ∷ []) xs ws
@@ -53,7 +53,7 @@ agreed_few p q xs ys ws x_word y_word some equal agreed =
 
 -- ---- Errors at two positions and at most one further.
 
--- the first two of the sums that are left where the parts of two positions are taken out
+-- the first two sums after the shares of two positions are removed
 pub record AreLeft (es : List ℕ) (a b t0 t1 : ℕ) : Type 0 where
   pub zeroth : t0 ≡ weighted_sum 0 (cleared (alpha_power (23 - b)) (cleared (alpha_power (23 - a)) es))
   pub first : t1 ≡ weighted_sum 1 (cleared (alpha_power (23 - b)) (cleared (alpha_power (23 - a)) es))
@@ -76,7 +76,7 @@ new_or_not a b f =
           ]
     ]
 
--- where nothing is left of the sums, there is no error at the further position
+-- if the remaining sums are 0, there is no error at the further position
 pub no_further : (sums : WordSums) (a b f t0 t1 : ℕ) (es : List ℕ) → a < 24 → b < 24
     → ArePlacedErrors sums (a ∷ b ∷ f ∷ []) es → AreLeft es a b t0 t1 → t0 ≡ 0
     → (k : ℕ) → k < 24 → k ≢ a → k ≢ b → get_or es k 0 ≡ 0
@@ -93,7 +93,7 @@ no_further sums a b f t0 t1 es a_lt b_lt are left none k lt not_a not_b =
           ]
     ]
 
--- else its power leads from the first sum that is left to the second
+-- otherwise its power times the first remaining sum is the second
 pub some_further : (sums : WordSums) (a b f t0 t1 : ℕ) (es : List ℕ) → a < 24
     → ArePlacedErrors sums (a ∷ b ∷ f ∷ []) es → AreLeft es a b t0 t1 → t0 ≢ 0
     → (f < 24) × (f ≢ a) × (f ≢ b) × (product (alpha_power (23 - f)) t0 ≡ t1)
@@ -111,7 +111,7 @@ some_further sums a b f t0 t1 es a_lt are left some =
           (λ k lt not_a not_b. are.outside k lt (not_a, (not_b, (old k lt not_a not_b, tt)))) left.zeroth))
     ]
 
--- ---- What is found at two positions or one.
+-- ---- The results at one or two positions.
 
 pub few_places : (sums : WordSums) (p q : ℕ) (found : Option WrongPlaces) (xs ys : List ℕ) → IsWord xs
     → IsWord ys → AreFirstSums 4 xs sums → 0 < differences xs ys
@@ -133,7 +133,7 @@ few_places sums p q (Some places) xs ys x_word y_word are some equal found = (
       (found.1 f (gaps xs w) (errors_of sums (p ∷ q ∷ f ∷ []) xs w x_word agreed.is_codeword are right)),
 )
 
--- ---- The code's lists are the readings.
+-- ---- The lists in the code are the readings.
 
 pub moved : (P : List ℕ → List ℕ → Type 0) (one other xs ys : List ℕ) → one ≡ xs → other ≡ ys → P one other
     → P xs ys

@@ -1,4 +1,4 @@
--- The slots of a block, as a window takes them.
+-- The slots of a block, as a window reads them.
 use Rattle.std.proofs.Common.{◌≡◌, ℕ, ◌+◌, ◌-◌, ◌*◌, ◌%◌, ◌<◌, ◌⊎◌, inl, inr, List, [], ◌∷◌, length, map, take, drop, Some, None, sym, ap, ◌∙◌, arith, length-drop, length-take-le}
 use Rattle.std.specs.Prelude.{slice_index, ◌==◌, if◌then◌else◌}
 use Rattle.std.specs.declared.option.Option.{Option}
@@ -30,7 +30,7 @@ slots_same block size =
     (λ i. slot_same block 0 size (omega arith) i ∷ slot_same block 1 size (omega arith) i
     ∷ slot_same block 2 size (omega arith) i ∷ slot_same block 3 size (omega arith) i ∷ [])
 
--- where packs are gathered, a block's slots are taken by a window
+-- if packs are spread over slots, a window reads the slots of a block
 pub raw_state : (form : Form) (w : List (List ℕ)) (block : List ℕ) → (form ≡ Raw) ⊎ (form ≡ Sector)
     → length block ≡ 96
     → run_state gather_next w (slots_in block 0 4) ≡ run_state (window_next form) w (slots_of block)
@@ -54,7 +54,7 @@ raw_gives form w block (inr sector) size =
     ap (run_gives gather_next gather_gives w) (sym (slots_same block size))
     ∙ ap (λ f. run_gives (window_next f) (window_gives f) w (slots_of block)) (sym sector)
 
--- cooked slots are words as they stand
+-- the slots of the cooked form are words
 pub cooked_state : (form : Form) (w : List (List ℕ)) (block : List ℕ) → form ≡ Cooked
     → w ≡ run_state (window_next form) w (slots_of block)
 unfolding window_next slots_of

@@ -1,4 +1,4 @@
--- From the counts of blocks to what `check` writes.
+-- From the counts of blocks to the output of `check`.
 use Rattle.std.proofs.Common.{◌≡◌, ℕ, ◌-◌, ◌*◌, ◌/◌, ◌%◌, ◌≤◌, ◌==◌, min, List, [], ◌∷◌, ◌++◌, length, length-drop, map, drop, refl, sym, ap, ap₂, ◌∙◌, subst, arith, IfSome, Some, None, Result, Ok, Err}
 use Rattle.std.specs.Prelude.{IfOk, IfErr, nat_lt, count_by, is_ok, is_err}
 use Rattle.std.specs.declared.option.Option.{Option}
@@ -63,7 +63,7 @@ words_counted form lead_in s blocks fresh few =
     ∙ ap₂ count_after fresh.counts (block_words form lead_in s.words.first blocks fresh.words) in
     subst (AreCounted words) (sym run) (are_counted words (few_words form lead_in blocks few))
 
--- what the frames of blocks are read as
+-- the readings of the frames of blocks
 abbrev readings_for : Form → List (List ℕ) → List (Result QFrame QFault)
 readings_for Raw blocks = map reading_at blocks
 readings_for Sector blocks = map reading_at blocks
@@ -194,7 +194,7 @@ checked_blocks form lead_in s bytes n end fresh few whole_units e =
       bad_is = counted.bad;
     }
 
--- a call that writes at the end wrote nothing where the reading stopped
+-- a call that writes at the end wrote nothing if the reading stopped
 module _ {S : Type 0} (writes : List ℕ → List ℕ → ℕ → Type 0) (form : Form) (lead_in : ℕ)
     (next : S → List ℕ → S) (left left' held held' : Option (List ℕ)) (s s' : S) (taken : List ℕ) where
   abbrev Stops : PlayStop → Type 0

@@ -41,7 +41,7 @@ blocks_sized Sector (u ∷ units) sized =
     (omega (arith, length-drop 2352 u, sized.0), blocks_sized Sector units sized.1)
 blocks_sized Cooked (u ∷ units) sized = (sized.0, blocks_sized Cooked units sized.1)
 
--- the packs of some bytes by their units
+-- the packs of some bytes, from their units
 pub by_units : (form : Form) (lead_in : ℕ) (bytes : List ℕ) (units : List (List ℕ))
     → units_of (unit_size form) (length bytes / unit_size form) bytes ≡ units → Sized (unit_size form) units
     → IsConverted form lead_in bytes (cdg_bytes (found_in form (program form lead_in units)))
@@ -56,7 +56,7 @@ by_units form lead_in bytes units same sized = record {
   bad_is = refl;
 }
 
--- A stage that gives the packs of the units, and counts the bad ones, converts.
+-- A stage is a conversion if its output is the packs of the units and it counts the bad ones.
 pub converts_by : {S : Type 0} (form : Form) (lead_in : ℕ) (machine : Machine S) (s : S) (bad_of : S → ℕ)
     → ((units : List (List ℕ)) → concat (run_gives machine.next machine.gives s units)
     ≡ cdg_bytes (found_in form (program form lead_in units)))

@@ -1,4 +1,4 @@
--- What is counted of words and blocks, one after another.
+-- Words and blocks counted one after another.
 use Rattle.std.proofs.Common.{◌≡◌, ℕ, zero, suc, ◌+◌, ◌-◌, ◌^◌, ◌<◌, ◌≤◌, Bool, true, false, List, [], ◌∷◌, ◌++◌, length, get_or, map, take, Some, refl, sym, ap, ap₂, ◌∙◌, arith}
 use Rattle.std.specs.Prelude.{if◌then◌else◌, min, count_by, is_none, is_ok, is_err, replicate, Result}
 use Rattle.std.specs.declared.option.Option.{Option}
@@ -43,7 +43,7 @@ pub idle_counted : (s : WordCounts) (word : List ℕ) → word ≡ replicate 24 
 unfolding count_found tick differences
 idle_counted s word zeros = sym (ap (λ (w : List ℕ). count_found s w (Some w)) zeros)
 
--- ---- words for which the idle pack is found, counted together at the end
+-- ---- words that are corrected to the idle pack, counted together at the end
 
 later_hit : (hit : Bool) (n c : ℕ) → tick hit (min (n + c) (2 ^ 32 - 1)) ≡ min (tick hit n + c) (2 ^ 32 - 1)
 unfolding tick
@@ -110,7 +110,7 @@ near_one s near (suc (suc zero)) few = λ i. record {
 }
 near_one s near (suc (suc (suc n))) few = absurd (omega (arith, few))
 
--- one of them
+-- one word near the idle pack
 pub near_step : (s : WordCounts) (near : NearIdle) (word : List ℕ) (wrong : ℕ) → IsCodeword idle_pack
     → IsWord word → wrong ≡ differences word idle_pack → wrong ≤ 2
     → with_near s (near_counted near wrong) ≡ count_next (with_near s near) word
@@ -119,13 +119,13 @@ near_step s near word wrong codeword is same few =
     ∙ ap (count_found (with_near s near) word)
     (found_some word idle_pack is (record { is_codeword = codeword; is_near = omega (arith, same, few) }))
 
--- and another word
+-- another word
 pub other_step : (s new : WordCounts) (near : NearIdle) (word : List ℕ) → new ≡ count_next s word
     → with_near new near ≡ count_next (with_near s near) word
 other_step s new near word is =
     ap (λ (t : WordCounts). with_near t near) is ∙ sym (near_later s near word (finding word))
 
--- there is one more of them
+-- the count of words near the idle pack
 pub near_few : (near : NearIdle) (wrong n : ℕ) → wrong ≤ 2 → near.clean + near.one + near.two ≤ n
     → (near_counted near wrong).clean + (near_counted near wrong).one + (near_counted near wrong).two ≤ n + 1
 near_few near zero n few before = omega (arith, before)
@@ -136,7 +136,7 @@ near_few near (suc (suc (suc m))) n few before = absurd (omega (arith, few))
 none_near : (n : ℕ) → n < 2 ^ 32 → min (n + 0) (2 ^ 32 - 1) ≡ n
 none_near n fits = omega (arith, fits)
 
--- none of them
+-- no such words
 pub near_none : (s : WordCounts) → s.clean < 2 ^ 32 → s.one < 2 ^ 32 → s.two < 2 ^ 32 → s.idle < 2 ^ 32
     → with_near s (record { clean = 0; one = 0; two = 0 }) ≡ s
 near_none s clean one two idle = λ i. record {
@@ -208,7 +208,7 @@ counts_run s (v ∷ vs) = counts_run (count_after s v.items) vs ∙ sym (count_a
 
 -- ---- counts of lists
 
--- how often a test passes, counted one by one
+-- the number of passed tests, counted one by one
 tally : {A : Type 0} → (A → Bool) → ℕ → List A → ℕ
 tally test n [] = n
 tally test n (x ∷ xs) = tally test (tick (test x) n) xs
@@ -235,7 +235,7 @@ tally_counts {B = B} test f n (x ∷ xs) fits =
     ∙ tally_counts test f (n + one) xs (omega (arith, fits, at_most_one (test (f x))))
     ∙ omega (arith, whole)
 
--- the counts of words, each by itself
+-- the counts of words, each by its own test
 tallies : (s : WordCounts) (words : List (List ℕ)) → count_after s words ≡ record {
   clean = tally (λ w. has_wrong 0 (w, finding w)) s.clean words;
   one = tally (λ w. has_wrong 1 (w, finding w)) s.one words;

@@ -1,4 +1,4 @@
--- What is drawn for words, one after another.
+-- The words of a stream, drawn one after another.
 use Rattle.std.proofs.Common.{◌≡◌, ◌==◌, ℕ, zero, suc, ◌+◌, ◌-◌, ◌^◌, ◌<◌, false, cond, List, [], ◌∷◌, ◌++◌, length, get_or, map, take, refl, sym, ap, ap₂, ◌∙◌, subst, arith, Some, None, inl, inr}
 use Rattle.std.specs.declared.option.Option.{Option}
 use Rattle.std.proofs.lemmas.Bool.Decides.{eqb_tells}
@@ -58,9 +58,9 @@ painting_runs s [] = refl
 painting_runs s (v ∷ vs) =
     painting_runs (draw_after s v.items) vs ∙ sym (draw_append s v.items (all_items vs))
 
--- ---- what stands
+-- ---- the standing
 
--- what the found codewords mean
+-- the instructions of the codewords that are found
 abbrev pub instrs_of : List (Option (List ℕ)) → List Instr
 instrs_of [] = []
 instrs_of (None ∷ rest) = instrs_of rest
@@ -102,7 +102,7 @@ unfolding draw_after draw_next
 none_left standing bad [] = refl
 none_left standing bad (w ∷ words) = none_left standing bad words
 
--- an idle word leaves the standing as it is
+-- an idle word does not change the standing
 idle_drawn : (standing : Standing) (left bad : ℕ) → IsCodeword (replicate 24 0)
     → standing ≡ standing_after standing (meaning (replicate 24 0) ∷ [])
     → draw_next (state standing left bad) (replicate 24 0) ≡ state standing (left - 1) bad
@@ -118,7 +118,7 @@ idle_drawn standing (suc left) bad is stays =
     ∙ ap₂ (λ (p : Standing) (b : ℕ). state p left b) same none
     ∙ ap (λ n. state standing n bad) less
 
--- four of them
+-- and neither do four of them
 pub four_idle_drawn : (s : Painting) → IsCodeword (replicate 24 0)
     → s.screen ≡ standing_after s.screen (meaning (replicate 24 0) ∷ [])
     → record s { left = s.left - 4 } ≡ draw_after s (replicate 4 (replicate 24 0))
@@ -132,7 +132,7 @@ four_idle_drawn s is stays =
     ∙ at (s.left - 1 - 1 - 1)
     ∙ ap (λ n. state s.screen n s.bad) left)
 
--- The words were drawn from this state: what stands, and how many of them are bad.
+-- The words were drawn from this state: the standing, and the number of bad words.
 pub record AreDrawn (standing : Standing) (left bad : ℕ) (words : List (List ℕ)) (end : Painting) : Type
     0 where
   pub stands : end.screen ≡ standing_after standing (instrs_of (take left (map finding words)))

@@ -1,4 +1,4 @@
--- How the end of an input is told by a player.
+-- How a player reports the end of an input.
 use Rattle.std.proofs.Common.{◌≡◌, ◌≢◌, ℕ, Bool, true, false, if◌then◌else◌, List, Result, Ok, Err, IfErr, refl, sym, subst}
 use Rattle.std.specs.Prelude.{nat_lt}
 use Rattle.cdg_io.specs.Pump.{TellsEndOf}
@@ -27,14 +27,14 @@ ends_in_turn pump.WriteFault before now told = told
 ends_in_turn (pump.Torn unit) before now told = told
 ends_in_turn pump.TooLong before now told = told
 
--- where a call stopped that writes while it reads
+-- a call that writes while it reads has stopped
 pub ends_stopped : (stop : PumpStop) (answer : PlayStop) (before now : Count) → answer ≡ play_stop stop
     → TellsEndOf (pump_error stop) before now
     → EndInTurn (play_error answer) before now
 ends_stopped stop answer before now is told =
     subst (λ (s : PlayStop). EndInTurn (play_error s) before now) (sym is) (ends_in_turn stop before now told)
 
--- a pump asks for no moment
+-- a stop of a pump is not `PastEnd`
 pub stops_stream : (stop : PumpStop) → IsStreamStop (play_stop stop)
 stops_stream pump.ReadFault = tt
 stops_stream pump.WriteFault = tt
@@ -44,13 +44,13 @@ stops_stream pump.TooLong = tt
 pub stops_played : (stop : PumpStop) (answer : PlayStop) → answer ≡ play_stop stop → IsStreamStop answer
 stops_played stop answer is = subst IsStreamStop (sym is) (stops_stream stop)
 
--- the writing of counts stops at a failed write alone
+-- a call that writes counts stops only at a failed write
 pub stops_counts : (answer : Result Played PlayStop) (X : PlayStop → Type 0)
     → IfErr answer (λ stop. (stop ≡ WriteFault) × X stop) → IfErr answer IsStreamStop
 stops_counts (Ok played) X part = tt
 stops_counts (Err stop) X part = subst IsStreamStop (sym part.0) tt
 
--- once all was read
+-- the whole input was read
 pub ends_counts : (answer : Result Played PlayStop) (X : PlayStop → Type 0)
     → IfErr answer (λ stop. (stop ≡ WriteFault) × X stop) → (before now : Count) → RoseOnce before now
     → EndFirst answer before now
@@ -66,7 +66,7 @@ ends_first pump.WriteFault before now other told = absurd (other refl)
 ends_first (pump.Torn unit) before now other told = told
 ends_first pump.TooLong before now other told = told
 
--- where a call stopped before it read all
+-- a call stopped before it read the whole input
 pub ends_unread : (stop : PumpStop) (answer : PlayStop) (before now : Count) → answer ≡ play_stop stop
     → pump_error stop ≢ pump_error pump.WriteFault → TellsEndOf (pump_error stop) before now
     → EndFirst (play_error answer) before now
@@ -74,7 +74,7 @@ ends_unread stop answer before now is other told =
     subst (λ (s : PlayStop). EndFirst (play_error s) before now) (sym is)
     (ends_first stop before now other told)
 
--- a call that lists texts may stop where a pump does
+-- a call that lists texts may have each stop of a pump
 stops_at_list : (stop : PumpStop) → IsListStop (play_stop stop)
 stops_at_list pump.ReadFault = tt
 stops_at_list pump.WriteFault = tt
@@ -84,7 +84,7 @@ stops_at_list pump.TooLong = tt
 pub stops_unread : (stop : PumpStop) (answer : PlayStop) → answer ≡ play_stop stop → IsListStop answer
 stops_unread stop answer is = subst IsListStop (sym is) (stops_at_list stop)
 
--- a pump does not ask for texts either
+-- a stop of a pump is not `Text` either
 pub stops_moment : (stop : PumpStop) → IsMomentStop (play_stop stop)
 stops_moment pump.ReadFault = tt
 stops_moment pump.WriteFault = tt
@@ -98,11 +98,11 @@ stops_view : (past : Bool) (blocks bad : ℕ) → IfErr (by_test past blocks bad
 stops_view true blocks bad = tt
 stops_view false blocks bad = tt
 
--- what was drawn up to a moment
+-- the stops of a call that draws up to a time
 pub viewed_stops : (blocks time bad : ℕ) → IfErr (viewed blocks time bad) IsMomentStop
 viewed_stops blocks time bad = stops_view (nat_lt blocks time) blocks bad
 
--- once all was read
+-- the whole input was read
 pub ends_texts : (s : LeadInTexts) (blocks : ℕ) (held held' : Option (List ℕ))
     (result : Result Played PlayStop) (before now : Count)
     → WritesTexts s blocks held held' result → RoseOnce before now → EndFirst result before now
@@ -114,7 +114,7 @@ ends_texts s blocks held held' (Err (Torn block)) before now writes told = absur
 ends_texts s blocks held held' (Err TooLong) before now writes told = absurd writes
 ends_texts s blocks held held' (Err (PastEnd past)) before now writes told = absurd writes
 
--- the writing of texts asks for no moment
+-- a call that writes texts does not stop with `PastEnd`
 pub stops_list : (s : LeadInTexts) (blocks : ℕ) (held held' : Option (List ℕ))
     (result : Result Played PlayStop)
     → WritesTexts s blocks held held' result → IfErr result IsListStop

@@ -1,4 +1,4 @@
--- The words that come with slots, and what is found for them.
+-- The words that end with slots, and the findings for them.
 use Rattle.std.proofs.Common.{◌≡◌, ℕ, zero, suc, ◌+◌, ◌-◌, ◌*◌, ◌/◌, ◌<◌, List, [], ◌∷◌, length, get_or, map, refl, sym, ap, ap₂, ◌∙◌, subst, arith, None}
 use Rattle.std.specs.declared.option.Option.{Option}
 use Rattle.std.specs.List.{concat, flat_map}
@@ -20,7 +20,7 @@ use Rattle.raw_subcode.specs.declared.form.Form.{Form}
 use Rattle.raw_subcode.specs.declared.form.Form.TheVariants.{Raw, Sector, Cooked}
 use Rattle.stream_stages.proofs.Slots.{Sized, all_slots_sized, all_slots_together, length-all_slots, length-all_symbols, symbols_small}
 
--- the words that come with slots from the start on
+-- the words that end with slots, from the start
 abbrev pub words_from : Form → List (List ℕ) → List (List ℕ)
 words_from form slots = run_gives (window_next form) (window_gives form) [] slots
 
@@ -49,7 +49,7 @@ size_at [] k sized lt = absurd (omega arith)
 size_at (s ∷ slots) zero sized lt = sized.0
 size_at (s ∷ slots) (suc k) sized lt = size_at slots k sized.1 (omega arith)
 
--- slots are the words of their symbols as they stand
+-- the slots of the cooked form are the words of its symbols
 plain_words : (slots : List (List ℕ)) → Sized 24 slots
     → slots ≡ map (form_word Cooked (concat slots)) (below (length slots))
 plain_words slots sized =
@@ -61,7 +61,7 @@ gathered_words : (slots : List (List ℕ)) → Sized 24 slots
     → run_gives gather_next gather_gives [] slots ≡ map (word_of (concat slots)) (below (length slots - 7))
 gathered_words slots sized = gathers [] slots (omega arith) sized
 
--- the words of slots by their symbols
+-- the words of slots, from their symbols
 pub words_are : (form : Form) (slots : List (List ℕ)) (n : ℕ) → Sized 24 slots → length slots ≡ 4 * n
     → words_from form slots ≡ map (form_word form (concat slots)) (below (word_count form n))
 words_are Raw slots n sized size =
@@ -77,7 +77,7 @@ words_are Cooked slots n sized size =
     ∙ plain_words slots sized
     ∙ ap (λ k. map (form_word Cooked (concat slots)) (below k)) size
 
--- 24 small symbols at any places are a word
+-- 24 small symbols at any places form a word
 placed_word : (symbols : List ℕ) (at : ℕ → ℕ) → ((p : ℕ) → get_or symbols p 0 < 64)
     → IsWord (map (λ i. get_or symbols (at i) 0) (below 24))
 placed_word symbols at small = record {
@@ -95,7 +95,7 @@ form_words Raw symbols n small = placed_word symbols (place n) small
 form_words Sector symbols n small = placed_word symbols (place n) small
 form_words Cooked symbols n small = placed_word symbols (λ i. 24 * n + i) small
 
--- what is found for the words that come with the slots of some blocks
+-- the findings for the words that end with the slots of some blocks
 abbrev pub found_in : Form → List (List ℕ) → List (Option (List ℕ))
 found_in form blocks = map finding (words_from form (flat_map slots_of blocks))
 

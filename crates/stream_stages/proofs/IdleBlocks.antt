@@ -1,4 +1,4 @@
--- Blocks that are seen to be idle.
+-- Blocks that are recognized as idle.
 use Rattle.std.proofs.Common.{◌≡◌, ℕ, List, Some, sym, ap, ap₂, ◌∙◌}
 use Rattle.std.specs.Prelude.{replicate}
 use Rattle.rw_code.specs.Codeword.{IsCodeword}
@@ -16,7 +16,7 @@ idle_stays s block codeword idles =
     sym (ap₂ (λ (w : BlockWords) (b : ℕ). record { words = w; bad = b }) idles.0
     (bad_idle s.bad codeword ∙ ap (bad_with s.bad) idles.1))
 
--- and gives zeros
+-- and its packs are zeros
 pub idle_gives : (s : BlockPacks) (block : List ℕ) → IsCodeword idle_pack → IdlesOn s.words block
     → packs_give s block ≡ Some (replicate 96 0)
 unfolding packs_give

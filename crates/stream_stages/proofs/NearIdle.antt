@@ -1,4 +1,4 @@
--- Words for which the idle pack is found.
+-- Words that are corrected to the idle pack.
 use Rattle.std.proofs.Common.{◌≡◌, ℕ, zero, suc, ◌+◌, ◌*◌, ◌<◌, List, [], ◌∷◌, ◌++◌, drop, length, get_or, map, take, refl, sym, ap, ap₂, ◌∙◌, Some, None, arith}
 use Rattle.std.specs.Prelude.{replicate}
 use Rattle.std.specs.declared.option.Option.{Option}
@@ -10,7 +10,7 @@ use Rattle.rw_interleave.specs.Texts.{cdg_bytes}
 use Rattle.stream_stages.specs.Steps.{bad_next, bad_after}
 use Rattle.stream_stages.proofs.Recovers.{found_some, bad_some, take_one_more}
 
--- so many times the idle pack
+-- n idle packs
 abbrev pub idles : ℕ → List (Option (List ℕ))
 idles n = replicate n (Some idle_pack)
 
@@ -22,7 +22,7 @@ found_more : (words : List (List ℕ)) (word : List ℕ)
 found_more [] word = refl
 found_more (w ∷ words) word = ap (λ (l : List (Option (List ℕ))). finding w ∷ l) (found_more words word)
 
--- one word more
+-- one more word
 pub idle_more : (words : List (List ℕ)) (i : ℕ) (word : List ℕ) → i < length words
     → word ≡ get_or words i word → IsCodeword idle_pack → IsWord word → IsNear word idle_pack
     → map finding (take i words) ≡ idles i → map finding (take (i + 1) words) ≡ idles (i + 1)
@@ -40,13 +40,13 @@ zeros_of (suc n) =
     ∙ replicate-append-replicate 24 (24 * n) 0
     ∙ ap (λ m. replicate m 0) more
 
--- the bytes of what is found are zeros
+-- the packs of these words are zeros
 pub text_near : (words : List (List ℕ)) (n : ℕ) → n ≡ length words → map finding words ≡ idles (length words)
     → replicate (24 * n) 0 ≡ cdg_bytes (map finding words)
 text_near words n count found =
     ap (λ k. replicate (24 * k) 0) count ∙ sym (zeros_of (length words)) ∙ ap cdg_bytes (sym found)
 
--- and no word is bad
+-- and none of these words is bad
 pub bad_near : (bad : ℕ) (words : List (List ℕ)) → map finding words ≡ idles (length words)
     → bad ≡ bad_after bad words
 unfolding bad_after

@@ -1,4 +1,4 @@
--- For some bytes one text is written.
+-- A call writes only one text for given bytes.
 use Rattle.std.proofs.Common.{◌≡◌, ◌↔◌, ℕ, ◌-◌, ◌/◌, ◌<◌, Bool, List, [], ◌∷◌, length, map, take, drop, min, sym, ap, ap₂, ◌∙◌, subst, arith, count_by, Some, None, Result, Ok}
 use Rattle.std.specs.Prelude.{is_err}
 use Rattle.std.specs.declared.option.Option.{Option}
@@ -33,7 +33,7 @@ use Rattle.stream_stages.specs.TextListing.{IsTextListed, packs_in}
 use Rattle.stream_stages.proofs.Slots.{Sized, symbols_small}
 use Rattle.stream_stages.proofs.Conversion.{units_sized, blocks_sized}
 
--- the laws that this rests on
+-- the laws that this file uses
 abbrev pub OneFinding : Type 0
 OneFinding = (received : List ℕ) (found : Option (List ℕ)) → IsWord received → IsFinding received found
     → found ≡ finding received
@@ -45,7 +45,7 @@ abbrev pub OneReading : Type 0
 OneReading = (message : List Bool) (what : Result QFrame QFault) → length message ≡ 96
     → IsReading message what ↔ (what ≡ reading_of message)
 
--- one list is found
+-- the list of findings is unique
 pub one_found : OneFinding → (form : Form) (lead_in : ℕ) (bytes : List ℕ) (one other : List (Option (List ℕ)))
     → IsRecovered form (program_symbols form bytes lead_in) one
     → IsRecovered form (program_symbols form bytes lead_in) other → one ≡ other
@@ -59,7 +59,7 @@ one_found law form lead_in bytes one other r r' =
     omega (arith, lt, r.count) in
     law _ _ (is_word n) (r.each n within) ∙ sym (law _ _ (is_word n) (r'.each n within)))
 
--- one list of instructions is meant
+-- the list of instructions is unique
 one_meant : OneMeaning → (found : List (Option (List ℕ))) (one other : List Instr) → AreMeant found one
     → AreMeant found other
     → one ≡ other
@@ -71,7 +71,7 @@ one_meant law (Some word ∷ rest) (instr ∷ one) (more ∷ other) a b =
     ap₂ (λ (i : Instr) (l : List Instr). i ∷ l) (law word instr more a.0 b.0)
     (one_meant law rest one other a.1 b.1)
 
--- one list of readings is read
+-- the list of readings is unique
 one_read : OneReading → (blocks : List (List ℕ)) → Sized 96 blocks → (one other : List (Result QFrame QFault))
     → AreQReadings blocks one → AreQReadings blocks other
     → one ≡ other

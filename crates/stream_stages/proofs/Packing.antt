@@ -1,4 +1,4 @@
--- The packs of a block, put to the front of a place.
+-- The packs of a block, written to the front of a buffer.
 use Rattle.std.proofs.Common.{◌≡◌, ℕ, ◌+◌, List, ◌++◌, length, map, take, drop, None, Some, refl, sym, ap, ap₂, ◌∙◌, append_assoc, drop_at}
 use Rattle.std.proofs.Math.Seq.{take-append_seam}
 use Rattle.std.proofs.lemmas.List.{drop-drop}
@@ -12,7 +12,7 @@ use Rattle.stream_stages.specs.Steps.{bad_after, bad_with, text_of_words, words_
 use Rattle.stream_stages.specs.declared.block_words.BlockWords.{BlockWords}
 use Rattle.stream_stages.specs.declared.block_packs.BlockPacks.{BlockPacks}
 
--- a piece is put behind a text
+-- a piece is written behind a text
 pub put_more : (text piece room place : List ℕ) (at k : ℕ) → at ≡ length text → k ≡ length piece
     → place ≡ text ++ drop at room
     → put_mid at k place piece ≡ (text ++ piece) ++ drop (at + length piece) room
@@ -54,7 +54,7 @@ unfolding packs_give
 block_gives s block items is =
     ap (λ ws. cdg_bytes (map finding ws)) is ∙ text_in (words_give s.words block)
 
--- the front of a place, where a block was put
+-- the front of a buffer into which a block was written
 pub taken_at_front : (s : BlockPacks) (block place rest : List ℕ) (n : ℕ)
     → n ≡ length (given_bytes (packs_give s block)) → place ≡ given_bytes (packs_give s block) ++ rest
     → Some (take n place) ≡ packs_give s block

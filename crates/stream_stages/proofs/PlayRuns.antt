@@ -1,4 +1,4 @@
--- The stages of a player give the packs of a stream.
+-- The stages of a player write the packs of a stream.
 use Rattle.std.proofs.Common.{◌≡◌, ℕ, ◌+◌, ◌^◌, ◌<◌, ◌≤◌, List, [], ◌∷◌, length, map, drop, ap, ap₂, ◌∙◌, arith, length-drop, Some, None}
 use Rattle.std.specs.declared.option.Option.{Option}
 use Rattle.std.specs.List.{concat, flat_map}
@@ -22,7 +22,7 @@ use Rattle.stream_stages.proofs.WatchedBlocks.{given_on_units, run_on_units}
 use Rattle.stream_stages.specs.Watch.{on_units}
 use Rattle.stream_stages.proofs.Conversion.{converts_by}
 
--- at most one thing is given for an item
+-- an item has at most one output
 give_few : {O : Type 0} (o : Option O) (rest : List O) → length (give o rest) ≤ length rest + 1
 give_few None rest = omega arith
 give_few (Some x) rest = omega arith

@@ -19,7 +19,7 @@ use Rattle.stream_stages.specs.declared.played.Played.{Played}
 use Rattle.stream_stages.specs.declared.played.PlayStop.{PlayStop}
 use Rattle.stream_stages.specs.declared.played.PlayStop.TheVariants.{WriteFault, Torn}
 
--- A stage from this state gives what is written for the units of any bytes, and counts what is bad.
+-- From this state, the stage writes the text for the units of any bytes, and counts the bad words.
 pub record Plays {S : Type 0} (writes : List ℕ → List ℕ → ℕ → Type 0) (form : Form) (machine : Machine S)
     (s : S) (bad_of : S → ℕ) : Type 0 where
   pub says : (bytes : List ℕ) (n : ℕ) → n ≤ most_units → IsWhole (unit_size form) n bytes
@@ -32,7 +32,7 @@ unit_some Raw = omega arith
 unit_some Sector = omega arith
 unit_some Cooked = omega arith
 
--- how many units there are
+-- the number of units
 pub units_in : (form : Form) (n : ℕ) (bytes : List ℕ) → IsWhole (unit_size form) n bytes
     → length bytes / unit_size form ≡ n
 units_in Raw n bytes whole = omega (arith, whole.fits, whole.rest)

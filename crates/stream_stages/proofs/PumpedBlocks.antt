@@ -1,4 +1,4 @@
--- A pump at work on units, whose stage is at work on their blocks.
+-- A pump that runs a stage over units, as a run of a stage over their blocks.
 use Rattle.std.proofs.Common.{◌≡◌, ◌+◌, ℕ, List, [], ◌∷◌, length, map, drop, refl, sym, ap, ap₂, ◌∙◌, subst, arith, Result}
 use Rattle.std.specs.declared.option.Option.{Option}
 use Rattle.std.specs.List.{concat}
@@ -17,16 +17,16 @@ use Rattle.raw_subcode.specs.Sizes.{most_units}
 use Rattle.stream_stages.specs.Watch.{on_units}
 use Rattle.stream_stages.specs.declared.block_words.SectorBlocks.{SectorBlocks}
 
--- the units of an input, of so many bytes
+-- an input of units with this size
 abbrev units_cut : ℕ → Cut
 units_cut size = record { size = size; limit = most_units }
 
--- Each step of the one stage is a step of the other, on what is within it.
+-- Each step of the outer stage is a step of the inner stage.
 pub record Follows {T S : Type 0} (outer : Machine T) (machine : Machine S) (inner : T → S) : Type 0 where
   pub step : (t : T) (unit : List ℕ) → inner (outer.next t unit) ≡ machine.next (inner t) unit
   pub same : (t : T) (unit : List ℕ) → outer.gives t unit ≡ machine.gives (inner t) unit
 
--- what moved of the one stage, as of the other
+-- the moves of the outer stage, as moves of the inner stage
 abbrev within : {T S : Type 0} → (T → S) → Moved T → Moved S
 within inner moved =
     moving moved.left (from_to (inner moved.state.before) (inner moved.state.after)) moved.held
@@ -95,11 +95,11 @@ plain_blocks form size [] = refl
 plain_blocks form size (unit ∷ units) =
     ap₂ (λ (u : List ℕ) us. u ∷ us) (plain_block form size unit) (plain_blocks form size units)
 
--- a stage on blocks as one on units
+-- a stage over blocks, as a stage over units
 abbrev on_form : {S : Type 0} → Form → Machine S → Machine S
 on_form form machine = machine_of (on_units form machine.next) (on_units form machine.gives)
 
--- bytes that are blocks
+-- units that are blocks
 pub plain_pumps : {S : Type 0} (form : Form) (machine : Machine S) (moved : Moved S)
     (result : Result Pumped PumpStop) (taken : List ℕ) → unit_size form ≡ 96
     → Pumps (units_cut 96) machine moved result taken
@@ -113,13 +113,13 @@ plain_pumps form machine moved result taken size p =
     })
     96 moved result taken p)
 
--- the blocks of sectors, fed to a stage
+-- a stage over the blocks of sectors
 abbrev on_sectors : {S : Type 0} → Machine S → Machine (SectorBlocks S)
 on_sectors machine =
     machine_of (λ t x. record { blocks = machine.next t.blocks (drop 2352 x) })
     (λ t x. machine.gives t.blocks (drop 2352 x))
 
--- bytes that are sectors
+-- units that are sectors
 pub sector_pumps : {S : Type 0} (form : Form) (machine : Machine S) (moved : Moved (SectorBlocks S))
     (result : Result Pumped PumpStop) (taken : List ℕ) → form ≡ Sector
     → Pumps (units_cut 2448) (on_sectors machine) moved result taken

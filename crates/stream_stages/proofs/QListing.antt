@@ -1,4 +1,4 @@
--- The lines of the Q channel of a stream, from the runs of their stage.
+-- The lines for channel Q of a stream, from the runs of their stage.
 use Rattle.std.proofs.Common.{◌≡◌, ◌≢◌, ℕ, List, length, map, refl, sym, ap, ◌∙◌, subst, arith}
 use Rattle.std.specs.Prelude.{is_err, count_by}
 use Rattle.std.specs.List.{concat}
@@ -20,7 +20,7 @@ use Rattle.stream_stages.proofs.Conversion.{length-units_of, units_sized, blocks
 use Rattle.stream_stages.specs.Watch.{on_units}
 use Rattle.stream_stages.proofs.WatchedBlocks.{given_on_units, run_on_units}
 
--- the lines of blocks, which are those of a stream
+-- the lines of the blocks are the lines of the stream
 listed : (form : Form) (bytes text : List ℕ) (bad : ℕ) (blocks : List (List ℕ)) → q_blocks form bytes ≡ blocks
     → Sized 96 blocks
     → text ≡ q_lines 0 (map reading_at blocks) → bad ≡ count_by is_err (map reading_at blocks)
@@ -43,7 +43,7 @@ blocks_in : (form : Form) (n : ℕ) (bytes : List ℕ) → IsWhole (unit_size fo
 blocks_in form n bytes whole =
     ap (λ k. map (block_of form) (units_of (unit_size form) k bytes)) (units_in form n bytes whole)
 
--- a form in which blocks have a Q channel
+-- the blocks of this form have a Q channel
 q_blocks_are : (form : Form) (bytes : List ℕ) → form ≢ Cooked → q_blocks form bytes ≡ blocks_of form bytes
 q_blocks_are Raw bytes form_is = refl
 q_blocks_are Sector bytes form_is = refl

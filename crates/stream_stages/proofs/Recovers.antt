@@ -1,4 +1,4 @@
--- What is recovered from a word, and from some words.
+-- The codewords that are recovered from one or more words.
 use Rattle.std.proofs.Common.{◌≡◌, ℕ, ◌+◌, ◌-◌, ◌^◌, ◌<◌, min, List, [], ◌∷◌, ◌++◌, length, get_or, map, replicate, take, refl, sym, ap, ◌∙◌, Some, None, cond}
 use Rattle.std.specs.Prelude.{is_none}
 use Rattle.std.specs.declared.option.Option.{Option}
@@ -10,11 +10,11 @@ use Rattle.rw_code.proofs.Finding.{only_finding}
 use Rattle.rw_interleave.specs.Texts.{entry_bytes, cdg_bytes}
 use Rattle.stream_stages.specs.Steps.{bad_next, bad_after}
 
--- what was corrected is what is found
+-- a corrected word is a finding
 pub found_some : (word codeword : List ℕ) → IsWord word → Reads word codeword → Some codeword ≡ finding word
 found_some word codeword is reads = only_finding word is (Some codeword) reads
 
--- a codeword is what is found for it
+-- the finding of a codeword is itself
 pub found_itself : (word : List ℕ) → IsCodeword word → Some word ≡ finding word
 found_itself word is_codeword = found_some word word is_codeword.is_word (itself word word is_codeword refl).0
 
@@ -32,7 +32,7 @@ unfolding bad_next
 bad_none bad word found =
     ap (λ (o : Option (List ℕ)). cond (is_none o) (min (bad + 1) (2 ^ 32 - 1)) bad) found
 
--- one word more
+-- one more word
 pub bad_more : (bad : ℕ) (words : List (List ℕ)) (word : List ℕ)
     → bad_after bad (words ++ word ∷ []) ≡ bad_next (bad_after bad words) word
 unfolding bad_after

@@ -1,4 +1,4 @@
--- A conversion of a damaged stream gives its packs.
+-- A conversion of a damaged stream writes its packs.
 use Rattle.std.proofs.Common.{◌≡◌, ℕ, ◌<◌, List, ◌++◌, length, map, drop, sym, ap, ◌∙◌, arith, subst, append-nil, All, Some, None, IfSome, Result, Ok, Err}
 use Rattle.std.specs.declared.option.Option.{Option}
 use Rattle.std.specs.List.{concat}
@@ -17,7 +17,7 @@ use Rattle.stream_stages.specs.declared.played.PlayStop.{PlayStop}
 use Rattle.stream_stages.specs.declared.played.PlayStop.TheVariants.{ReadFault, WriteFault, Torn, TooLong, PastEnd, Text}
 use Rattle.stream_stages.proofs.Slots.{symbols_small}
 
--- the laws on recovered packs
+-- the laws about recovered packs
 abbrev pub Recovers : Type 0
 Recovers = (form : Form) (blocks : ℕ) (symbols others : List ℕ) (packs : List (List ℕ))
     (found : List (Option (List ℕ))) → Carries blocks symbols packs → All (λ symbol. symbol < 64) others
@@ -38,7 +38,7 @@ module _ (form : Form) (lead_in blocks : ℕ) (packs : List (List ℕ)) (bytes t
       law form blocks stream.symbols (program_symbols form bytes lead_in) packs converted.found stream.carries
       (program_small form bytes lead_in) stream.damaged converted.recovered
 
--- what was taken to the end is all
+-- the bytes that were consumed up to the end are all bytes
 pub taken_all : (all : List ℕ) (left : Option (List ℕ)) (taken : List ℕ) → Consumes (Some all) left taken
     → IsAtEnd left
     → taken ≡ all

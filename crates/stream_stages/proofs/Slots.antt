@@ -9,7 +9,7 @@ use Rattle.bit_lists.specs.Counting.{below}
 use Rattle.raw_subcode.specs.Channels.{symbols_of}
 use Rattle.stream_stages.specs.Steps.{slot_of, slots_of}
 
--- each of these lists has this size
+-- each list has this size
 abbrev pub Sized : ℕ → List (List ℕ) → Type 0
 Sized size xs = AllByRecursion (λ (x : List ℕ). length x ≡ size) xs
 

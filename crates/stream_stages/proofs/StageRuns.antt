@@ -17,7 +17,7 @@ use Rattle.raw_subcode.specs.declared.form.Form.{Form}
 use Rattle.stream_stages.specs.declared.block_words.BlockWords.{BlockWords}
 use Rattle.stream_stages.specs.declared.block_packs.BlockPacks.{BlockPacks}
 
--- all words of the lists that were given
+-- all words in these lists
 abbrev pub all_items : List (ArrayVec (List ℕ)) → List (List ℕ)
 all_items [] = []
 all_items (v ∷ vs) = v.items ++ all_items vs
@@ -122,7 +122,7 @@ bad_on : (bad : ℕ) (o : Option (ArrayVec (List ℕ))) (rest : List (ArrayVec (
 bad_on bad None rest = refl
 bad_on bad (Some v) rest = sym (bad_append bad v.items (all_items rest))
 
--- and how many of them are bad
+-- and the number of bad ones
 pub packs_counted : (s : BlockPacks) (blocks : List (List ℕ))
     → (run_state packs_next s blocks).bad
     ≡ bad_after s.bad (all_items (run_gives words_next words_give s.words blocks))
@@ -151,7 +151,7 @@ pub at_most_one : (found : Option (List ℕ)) → bad_count (found ∷ []) ≤ 1
 at_most_one (Some w) = omega arith
 at_most_one None = omega arith
 
--- the count is exact while there are few words
+-- the count does not saturate for a small number of words
 pub bad_counts : (bad : ℕ) (words : List (List ℕ)) → bad + length words < 2 ^ 32
     → bad_after bad words ≡ bad + bad_count (map finding words)
 unfolding bad_after bad_next

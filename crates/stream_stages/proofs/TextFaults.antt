@@ -1,4 +1,4 @@
--- Why kept packs give no texts: never for want of memory.
+-- The reasons why kept packs have no texts; missing memory is never one of them.
 use Rattle.std.proofs.Common.{◌≡◌, ◌≢◌, ◌⊎◌, ℕ, Bool, true, false, List, Option, Some, None, Result, Ok, Err, refl, ap, inl, inr, if◌then◌else◌}
 use Rattle.std.specs.Prelude.{◌-◌, ◌+◌, ◌||◌, IfErr, nat_lt, slice_index, take}
 use Rattle.disc_time.specs.Counts.{most_tracks}
@@ -65,7 +65,7 @@ fault_at NoMemory (Ok texts) never why refused = refl
 fault_at NoMemory (Err other) never why refused =
     let same : other ≡ NoMemory = cc in absurd (never (ap Err same))
 
--- where memory is short for the texts of kept packs, they give texts
+-- if memory for the texts of kept packs is not found, they have texts
 pub text_fault : (kept : List (Option (List ℕ))) (fault : TextFault)
     → (fault ≡ NoMemory) ⊎ (read_texts kept ≡ Err fault)
     → IfErr (read_texts kept) (λ why. ◌≡◌ {A = Result Texts TextFault} (Err fault) (Err why))

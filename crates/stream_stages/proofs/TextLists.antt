@@ -1,4 +1,4 @@
--- From a stage that reads the lead-in's packs to what a call lists.
+-- From a stage that reads the packs of the lead-in to the listing of a call.
 use Rattle.std.proofs.Common.{◌≡◌, ◌≢◌, ℕ, ◌-◌, ◌*◌, ◌/◌, ◌%◌, ◌≤◌, List, length, map, take, refl, sym, ap, ◌∙◌, subst, Some, None, IfSome, Result, Ok, Err, IsOk}
 use Rattle.std.specs.Prelude.{nat_lt, ◌==◌}
 use Rattle.std.specs.declared.option.Option.{Option}
@@ -45,7 +45,7 @@ counted_same texts good bad other good' bad' other' e f g =
 
 module _ (form : Form) (lead_in : ℕ) (left left' held held' : Option (List ℕ)) (s s' : LeadInTexts)
     (taken : List ℕ) where
-  -- the lead-in of what was taken is read
+  -- the lead-in of the consumed bytes is read
   has_read : (pumped : Pumped) → ReadsLeadIns → lead_in ≤ 450000 → s ≡ fresh_texts lead_in
       → Watches form text_next (feeding (from_to left left') (from_to s s')) (Ok pumped) taken
       → HasRead (packs_in form lead_in taken) s'
@@ -180,7 +180,7 @@ never_texts pump_stop.WriteFault fault = λ e. (cc)
 never_texts (pump_stop.Torn unit) fault = λ e. (cc)
 never_texts pump_stop.TooLong fault = λ e. (cc)
 
--- where the reading stopped
+-- the reading stopped
 pub lists_stop : (form : Form) (lead_in : ℕ) (left left' held : Option (List ℕ)) (s s' : LeadInTexts)
     (taken : List ℕ) (stop : PumpStop) (answer : PlayStop)
     → Watches form text_next (feeding (from_to left left') (from_to s s')) (Err stop) taken

@@ -1,4 +1,4 @@
--- How the faults of an input and of an output are told by a call of a player.
+-- How a call of a player reports the faults of its input and its output.
 use Rattle.std.proofs.Common.{◌≡◌, ◌≢◌, ◌≤◌, ℕ, List, Result, Ok, Err, IfErr, refl, sym, subst, arith}
 use Rattle.std.specs.declared.option.Option.{Option}
 use Rattle.cdg_io.specs.Causes.{HasCause, Rose, TellsFault}
@@ -55,7 +55,7 @@ module _ (f f' k k' : ℕ) (r : f ≤ f') (w : k ≤ k') where
     write = told WriteFault k k' w rose;
   }
 
-  -- ---- of a pump
+  -- ---- a pump
 
   pub done_told : (pumped : Pumped) (played : Played)
       → (pump_done pumped ≢ pump_error pump.ReadFault → f' ≡ f)
@@ -84,7 +84,7 @@ module _ (f f' k k' : ℕ) (r : f ≤ f') (w : k ≤ k') where
   stop_told stop answer is rose same cut kept =
       subst (λ (a : PlayStop). TellsStops f f' k k' (error a)) (sym is) (stop_at stop rose same cut kept)
 
-  -- ---- of a call that writes when all was read
+  -- ---- a call that writes after everything was read
 
   pub shown_told : (viewed played : Played) → (done viewed ≢ error ReadFault → f' ≡ f) → k' ≡ k
       → TellsStops f f' k k' (done played)

@@ -1,4 +1,4 @@
--- From a stage at work on blocks to what a call shows.
+-- From a run of a stage over blocks to the output of a call.
 use Rattle.std.proofs.Common.{◌≡◌, ◌≢◌, ℕ, ◌+◌, ◌-◌, ◌*◌, ◌/◌, ◌%◌, ◌^◌, ◌<◌, ◌≤◌, Bool, true, false, ◌==◌, if◌then◌else◌, Some, None, IfSome, List, [], length, map, take, drop, refl, sym, ap, ap₂, ◌∙◌, subst, arith, length-drop, Result, Ok, Err}
 use Rattle.std.specs.declared.option.Option.{Option}
 use Rattle.std.specs.Prelude.{nat_lt}
@@ -68,7 +68,7 @@ few_words form lead_in blocks few =
       length-drop lead_in blocks,
     )
 
--- what stands after the blocks, and what is bad
+-- the standing after the blocks, and the number of bad words
 pub record IsDrawn (form : Form) (lead_in time : ℕ) (blocks : List (List ℕ)) (end : Painting) : Type 0 where
   pub stands : end.screen
       ≡ standing_after blank (instrs_of (take (whole_packs time) (found_in form (drop lead_in blocks))))
@@ -106,7 +106,7 @@ recovered_units form lead_in bytes units same sized =
     (found_in form (program form lead_in units))) (sym same)
     (recovered form (program form lead_in units) (sized_drop 96 lead_in _ (blocks_sized form units sized)))
 
--- the same by the bytes
+-- the same, from the bytes
 pub viewed_bytes : (form : Form) (lead_in time : ℕ) (s : Paintings) (bytes : List ℕ) (n : ℕ) (end : Painting)
     → IsReady form lead_in time s → n ≤ most_units → IsWhole (unit_size form) n bytes
     → end ≡ (run_state paintings_next s (map (block_of form) (units_of (unit_size form) n bytes))).second

@@ -1,4 +1,4 @@
--- From the run of a pump to a stage at work on blocks.
+-- From the run of a pump to a run of a stage over blocks.
 use Rattle.std.proofs.Common.{◌≡◌, ◌≢◌, ℕ, ◌+◌, ◌*◌, ◌/◌, ◌<◌, ◌≤◌, List, [], ◌∷◌, length, map, refl, sym, ap, ◌∙◌, subst, arith, Result, Ok, Err}
 use Rattle.std.specs.Prelude.{IsErrOf}
 use Rattle.std.specs.declared.option.Option.{Option}
@@ -19,7 +19,7 @@ use Rattle.stream_stages.specs.Watch.{Watches, on_units}
 abbrev error : PumpStop → Result Pumped PumpStop
 error stop = Err stop
 
--- bytes within the limit, and at most one past it, have no whole unit past the limit
+-- bytes within the limit, with at most one more byte, have no whole unit beyond the limit
 all_units : (form : Form) (bytes : List ℕ) → length bytes ≤ most_units * unit_size form + 1
     → whole (unit_size form) most_units (length bytes) ≡ length bytes / unit_size form
 all_units Raw bytes within = omega (arith, within)
@@ -34,7 +34,7 @@ pub record RunsOnBlocks {T S : Type 0} (form : Form) (whole_next : T → List �
 
 module _ {T S : Type 0} (form : Form) (size : ℕ) (machine : Machine T) (next : S → List ℕ → S) (inner : T → S)
     (moved : Moved T) (taken : List ℕ) where
-  -- what was fed to the stage on blocks
+  -- the moves of the stage over blocks
   abbrev fed_within : Fed S
   fed_within = feeding moved.left (from_to (inner moved.state.before) (inner moved.state.after))
 
@@ -45,7 +45,7 @@ module _ {T S : Type 0} (form : Form) (size : ℕ) (machine : Machine T) (next :
       → length taken ≤ most_units * unit_size form + 1
   within_limit result e p = subst (λ n. length taken ≤ most_units * n + 1) (sym e) p.within
 
-  -- the stage stands where the blocks of the bytes leave it
+  -- the stage has the state after the blocks of the bytes
   stands : (result : Result Pumped PumpStop) → unit_size form ≡ size
       → RunsOnBlocks form machine.next next inner → Runs result
       → inner moved.state.after ≡ run_state next (inner moved.state.before) (blocks_of form taken)

@@ -1,4 +1,4 @@
--- What the course of a trial has gone over.
+-- The part of a stream that the course of a trial has processed.
 use Rattle.std.proofs.Common.{◌≡◌, ◌≢◌, ℕ, ◌+◌, ◌-◌, ◌*◌, ◌/◌, ◌<◌, ◌≤◌, List, [], ◌++◌, length, map, take, drop, Some, refl, sym, ap, ap₂, ◌∙◌, subst, arith, append_assoc, length-append, length-drop}
 use Rattle.std.specs.Prelude.{unwrap_or}
 use borrow.Rule.Slice.PartMut.{post_of, same_len_mid}
@@ -23,7 +23,7 @@ use Rattle.stream_trial.proofs.Scratched.{same_size}
 use Rattle.raw_subcode.specs.Channels.{symbols_of}
 use Rattle.stream_trial.proofs.Slots.{GathersWords, gathered_more}
 
--- the laws that this rests on
+-- the laws that this file uses
 abbrev pub ChannelsStay : Type 0
 ChannelsStay = (lead_in seed : ℕ) (bytes : List ℕ)
     → map (λ byte. byte / 64) (scratched lead_in seed bytes) ≡ map (λ byte. byte / 64) bytes
@@ -40,7 +40,7 @@ ScratchesGive = (seed b : ℕ) (bytes : List ℕ) → 96 * b + 96 ≤ length byt
 some_inside : (xs ys : List ℕ) → Some xs ≡ Some ys → xs ≡ ys
 some_inside xs ys same = ap (λ (o : Option (List ℕ)). unwrap_or o []) same
 
--- one block more
+-- one more block
 pub gone_over : GathersWords → ShowsScheduled → ChannelsStay → ScratchesGoOn → ScratchesGive
     → (script : List Drawing) → AreTimesInOrder script → AreColoursInRange script
     → (old new : Course) (block changed : List ℕ) (words : List (List ℕ))
@@ -83,9 +83,9 @@ gone_over law shows stay next gives script order ranges old new block changed wo
           waits looks);
     }
 
--- ---- The bytes that were put.
+-- ---- The bytes that were written.
 
--- of a block that has begun, with some bytes more: those at hand, whatever follows them
+-- some more bytes of a block follow the bytes that are there
 at_hand : (block part rest : List ℕ) (filled : ℕ) → filled ≤ length block
     → take (filled + length part) (take filled block ++ (part ++ rest)) ≡ take filled block ++ part
 at_hand block part rest filled fits =
@@ -115,7 +115,7 @@ knows_start script seed count course block bytes script_is steady none nothing l
   gone_over = λ more. gone (bytes ++ more);
 }
 
--- some bytes more of the block that has begun
+-- some more bytes of the current block
 pub knows_more : (script : List Drawing) (seed count : ℕ) (course : Course)
     (block bytes part part' bytes' : List ℕ)
     (filled k : ℕ) → filled + length part ≤ length block → part' ≡ part → bytes' ≡ bytes ++ part
@@ -147,7 +147,7 @@ knows_more script seed count course block bytes part part' bytes' filled k fits 
           (known.gone_over (part ++ more));
     }
 
--- a block that is whole: the course goes over it, and no byte of the next one is at hand
+-- a whole block: the course processes it, and the next block is still empty
 knows_next : (script : List Drawing) (seed count : ℕ) (course course' : Course) (whole bytes : List ℕ)
     → course'.blocks ≡ course.blocks + 1 → IsSteady script course'
     → ((seed : ℕ) (bytes : List ℕ) → 96 * course.blocks + 96 ≤ length bytes
@@ -177,7 +177,7 @@ knows_next script seed count course course' whole bytes next steady goes known =
           goes seed (bytes ++ more) room (block_is more) (known.gone_over more);
     }
 
--- the last bytes of a block: the course goes over it
+-- the last bytes of a block: the course processes it
 pub knows_whole : (script : List Drawing) (seed count : ℕ) (course course' : Course)
     (block bytes part part' bytes' : List ℕ)
     (filled k : ℕ) → filled + length part ≤ length block → part' ≡ part → bytes' ≡ bytes ++ part
@@ -195,7 +195,7 @@ knows_whole script seed count course course' block bytes part part' bytes' fille
     (subst (λ n. Knows script seed count course whole n bytes') end
     (knows_more script seed count course block bytes part part' bytes' filled k fits copied told many known))
 
--- what is found of the whole blocks
+-- the findings for the whole blocks
 pub knows_found : ChannelsStay → (script : List Drawing) → AreTimesInOrder script
     → (seed count : ℕ) (course : Course)
     (block bytes : List ℕ) (filled : ℕ) → filled < 96 → Knows script seed count course block filled bytes

@@ -14,8 +14,8 @@ pub every : {X : Type 0} (P : X → Type 0) (xs : List X) → ((x : X) → P x) 
 every P [] h = All-nil P
 every P (x ∷ xs) h = All-cons P x xs (h x) (every P xs h)
 
--- a line that a generated script may have: it sets a colour in range, or draws no pixels but those of a
--- rectangle in a colour
+-- The line sets a colour that is in range, or it draws a rectangle in a colour that is in range,
+-- or it shows a picture.
 IsGenerated : Drawing → Type 0
 IsGenerated (Colour number value) = value < 4096
 IsGenerated (Rect left top width height colour) = colour < 16

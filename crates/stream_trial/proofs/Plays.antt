@@ -1,4 +1,4 @@
--- What a replay and a gallery have after the first words and blocks of a stream.
+-- The state of a replay and a gallery after the first words and blocks of a stream.
 use Rattle.std.proofs.Common.{◌≡◌, ◌≢◌, ℕ, zero, suc, ◌+◌, ◌-◌, ◌*◌, ◌/◌, ◌%◌, ◌<◌, ◌≤◌, ◌==◌, List, [], ◌∷◌, ◌++◌, length, get_or, take, inl, inr, refl, sym, ap, ap₂, ◌∙◌, subst, arith}
 use Rattle.std.specs.Prelude.{count_by}
 use Rattle.std.specs.List.{range_with_len}
@@ -28,7 +28,7 @@ use Rattle.stream_trial.specs.declared.gallery.Gallery.{Gallery}
 use Rattle.stream_trial.specs.declared.run.Found.{Found}
 use Rattle.stream_trial.proofs.Slots.{GathersWords, given_at}
 
--- the laws that this rests on
+-- the laws that this file uses
 abbrev pub ShowsScheduled : Type 0
 ShowsScheduled = (script : List Drawing) (blocks : ℕ) (packs : List (List ℕ)) (k time : ℕ)
     (instrs : List Instr) → AreTimesInOrder script → IsSchedule script blocks packs
@@ -39,7 +39,7 @@ abbrev pub InTurn : Type 0
 InTurn = (start : Standing) (early late : List Instr)
     → standing_after start (early ++ late) ≡ standing_after (standing_after start early) late
 
--- ---- one word more
+-- ---- one more word
 
 range_more : (a n : ℕ) → range_with_len a (suc n) ≡ range_with_len a n ++ (a + n) ∷ []
 range_more a zero = ap (λ k. k ∷ []) (omega arith)
@@ -73,7 +73,7 @@ meant_more (p ∷ packs) [] pack instr meant means = absurd meant
 meant_more (p ∷ packs) (i ∷ instrs) pack instr meant means =
     (meant.0, meant_more packs instrs pack instr meant.1 means)
 
--- ---- what n words leave
+-- ---- the state after n words
 
 nothing_taken : (symbols others : List ℕ) (packs : List (List ℕ)) (replay : Replay) → replay.screen ≡ blank
     → (replay.one ≡ 0) × (replay.two ≡ 0) × (replay.bad ≡ 0) → AreTaken symbols packs others 0 replay
@@ -129,7 +129,7 @@ module _ (script : List Drawing) (symbols : List ℕ) (packs : List (List ℕ)) 
       step ∙ ap₂ (λ (d : ℕ) (w : List ℕ). d + one_where (differences (word_of (symbols_of bytes) k) w) wrong)
       before (sym (pack_is k lt)) ∙ sym (differing_more wrong k symbols (symbols_of bytes))
 
-  -- one word more
+  -- one more word
   one_taken : InTurn → (k : ℕ) (old new : Replay) → k < whole_packs (length bytes / 96)
       → AreTaken symbols packs (symbols_of bytes) k old
       → TakesWord (word_of (symbols_of bytes) k) (get_or packs k []) old new
@@ -161,7 +161,7 @@ module _ (script : List Drawing) (symbols : List ℕ) (packs : List (List ℕ)) 
       law script (length bytes / 96) packs k (ready_time script k) taken.instrs order damaged.schedule lt same
       held (subst (λ m. AreMeantBy (take m packs) taken.instrs) whole taken.meant)
 
-  -- the gallery after one block more
+  -- the gallery after one more block
   looked : AreTimesInOrder script → (n : ℕ) (old new : Gallery) → n % 4 ≡ 0 → AreCompared script n old
       → ((old.next < pictures script → n + 4 ≢ 4 * ready_time script old.next)
       → (new.next ≡ old.next) × (new.equal ≡ old.equal))
@@ -212,7 +212,7 @@ module _ (script : List Drawing) (symbols : List ℕ) (packs : List (List ℕ)) 
         subst (λ k. 0 < 4 * ready_time script k) (sym next) (omega (arith, time));
   }
 
-  -- all of it was played
+  -- everything was played
   all_out : AreTimesInOrder script → (n : ℕ) (replay : Replay) (gallery : Gallery) (found : Found)
       → n ≡ 4 * (length bytes / 96)
       → AreTakenAndCompared script symbols packs (symbols_of bytes) n replay gallery
@@ -249,7 +249,7 @@ begins script bytes replay gallery screen counts none = λ symbols packs damaged
   compared = first_ahead script symbols packs bytes damaged gallery none.0 none.1;
 }
 
--- a further word of block b
+-- another word of block b
 pub takes_on : GathersWords → InTurn
     → (script : List Drawing) (bytes : List ℕ) (b j : ℕ) (old new : Replay) (words : List (List ℕ))
     → b < length bytes / 96

@@ -16,13 +16,13 @@ use Rattle.subcode_author.specs.declared.stops.AuthorStop.{AuthorStop}
 use Rattle.subcode_author.specs.declared.stops.AuthorStop.TheVariants.{LengthShort, DiscTooLong, PastEnd, TextTooLong, LeadInShort, Late, WriteFault, NoMemory}
 use Rattle.cdg_workload.specs.Generated.{generated_drawings}
 
--- what is known of the times of generated scripts
+-- the facts about the times of generated scripts
 pub record TimesAreKnown : Type 0 where
   pub count : (seed count : ℕ) → pictures (generated_drawings seed count) ≡ count
   pub ready : (seed count k : ℕ) → k < count → ready_time (generated_drawings seed count) k ≡ 800 * (k + 1)
   pub hold : (seed count k : ℕ) → k < count → hold_time (generated_drawings seed count) k ≡ 800 * (k + 1) + 20
 
--- a change of so many instructions fits between two pictures
+-- a change of this length fits between two pictures
 in_time : TimesAreKnown → (seed count k need : ℕ) → k < count → need ≤ 3076
     → IsInTime (generated_drawings seed count) k need
 in_time times seed count zero need lt few = omega (arith, few, times.ready seed count 0 lt)
@@ -48,11 +48,11 @@ all_ready times is_change seed count ranges small few k lt =
       in_time times seed count k need (omega (arith, lt, times.count seed count)) (few k),
     )
 
--- where all are ready none is late
+-- if all pictures can be ready, none is late
 not_late : (script : List Drawing) (k need free : ℕ) → AreReady script → IsLate script k need free → ⊥
 not_late script k need free ready is = ready_not_late script k need free (ready k is.picture) is
 
--- no picture is held past the last hold time
+-- no picture is held beyond the last hold time
 pub not_past_end : TimesAreKnown → (seed count blocks : ℕ) → 800 * count + 20 ≤ blocks
     → ¬ IsPastEnd (generated_drawings seed count) blocks
 not_past_end times seed count blocks enough (some, past) =
@@ -80,7 +80,7 @@ accepted times sheet seed count lead_in audio ready layout enough room = record 
   ready = ready;
 }
 
--- what is refused of a stream that is accepted
+-- a call for an accepted disc stops only if memory is not found or a write fails
 pub author_stop : (sheet : CueSheet) (script : List Drawing) (lead_in audio : ℕ) (stop : AuthorStop)
     → IsAccepted sheet script lead_in audio → IsAuthorStop sheet script lead_in audio stop
     → (stop ≡ NoMemory) ⊎ (stop ≡ WriteFault)

@@ -13,12 +13,12 @@ use Rattle.stream_trial.specs.TrialSheet.{trial_sheet}
 use Rattle.stream_trial.specs.Trial.{trial_audio}
 use Rattle.stream_trial.proofs.Trials.{HasBlocks, stream_size}
 
--- a count that rose is not 0
+-- a count that has risen is not 0
 pub rose_some : (before now : ℕ) → Rose before now → 0 < now
 rose_some before now (inl more) = omega (arith, more)
 rose_some before now (inr last) = omega (arith, last)
 
--- what is accepted of the sheet and the script that a trial has read
+-- the sheet and the script that a trial has read are accepted
 pub accepted_so : (sheet : CueSheet) (script generated : List Drawing) (audio count : ℕ) → sheet ≡ trial_sheet
     → script ≡ generated → audio ≡ trial_audio count → IsAccepted trial_sheet generated 0 (trial_audio count)
     → IsAccepted sheet script 0 audio
@@ -37,7 +37,7 @@ size_so has sheet script audio count bytes packs sheet_is audio_is authored =
     ∙ ap (λ n. 96 * n) (has audio) in
     omega (arith, size, audio_is)
 
--- after a prefix of it was put there is room for more blocks
+-- after a prefix of the stream was written, there is room for more blocks
 pub room_left : (seed count seed' count' : ℕ) (before after bytes : List ℕ) (n blocks filled some : ℕ)
     → before ≡ [] → n ≤ length bytes → length bytes ≡ 96 * (170 + 800 * some) → some ≤ 500
     → Appends (Some (seed ∷ count ∷ before)) (Some (seed' ∷ count' ∷ after)) (take n bytes)
@@ -50,7 +50,7 @@ room_left seed count seed' count' before after bytes n blocks filled some none w
     let part : length (take n bytes) ≡ n = length-take-le n bytes within in
     omega (arith, all, empty, part, within, size, few, known, full)
 
--- what is neither done nor a failed write is want of memory
+-- an answer that is neither a success nor a failed write is `NoMemory`
 pub wants_memory : (answer : Result (Unit {0}) AuthorStop)
     → IfErr answer (λ stop. (stop ≡ NoMemory) ⊎ (stop ≡ WriteFault))
     → ¬ (answer ≡ Err WriteFault) → IfErr answer (λ stop. stop ≡ NoMemory)

@@ -1,4 +1,4 @@
--- What scratches leave of the words of an authored stream.
+-- The words of an authored stream after scratches.
 use Rattle.std.proofs.Common.{◌≡◌, ℕ, ◌+◌, ◌-◌, ◌*◌, ◌/◌, ◌%◌, ◌<◌, List, [], ◌∷◌, ◌++◌, length, map, flat_map, replicate, drop, get_or, All, sym, ap, subst, ◌∙◌, Some, arith, mod-lt, lit<}
 use Rattle.std.specs.declared.option.Option.{Option}
 use Rattle.std.proofs.lemmas.List.{append-nil, length-map}
@@ -36,7 +36,7 @@ pub program_small : (bytes : List ℕ) (lead_in : ℕ)
     → All (λ symbol. symbol < 64) (program_symbols Raw bytes lead_in)
 program_small bytes lead_in = symbols_small (drop lead_in (blocks_of Raw bytes))
 
--- what is known of scratches
+-- the facts about scratches
 abbrev pub ScratchesAreDamage : Type 0
 ScratchesAreDamage = (lead_in seed blocks : ℕ) (bytes : List ℕ) → length bytes ≡ 96 * blocks
     → IsDamaged (program_symbols Raw bytes lead_in) Raw
@@ -50,7 +50,7 @@ pub stream_damaged : ScratchesAreDamage
 stream_damaged law sheet script lead_in audio seed bytes packs is =
     law lead_in seed (lead_in + program_blocks sheet audio) bytes is.framing.size
 
--- what is known of recovery
+-- the facts about recovery
 abbrev pub PacksAreRecovered : Type 0
 PacksAreRecovered = (blocks : ℕ) (symbols others : List ℕ) (packs : List (List ℕ))
     (found : List (Option (List ℕ))) → Carries blocks symbols packs → All (λ symbol. symbol < 64) others
@@ -83,7 +83,7 @@ length-word : (symbols : List ℕ) (n : ℕ) → length (word_of symbols n) ≡ 
 unfolding word_of
 length-word symbols n = length-map-range_with_len (λ i. get_or symbols (place n i) 0) 0 24
 
--- a word of other symbols that are damaged from those that carry some packs
+-- the words of damaged symbols of a stream of packs
 module _ (blocks : ℕ) (symbols others : List ℕ) (packs : List (List ℕ))
     (carries : Carries blocks symbols packs) (small : All (λ symbol. symbol < 64) others)
     (damaged : IsDamaged symbols Raw others) (n : ℕ) (lt : n < whole_packs blocks) where

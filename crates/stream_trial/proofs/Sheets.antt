@@ -31,7 +31,7 @@ room_enough count = omega (arith, blocks_are (800 * count + 20))
 pub no_lead_in : HasRoom trial_sheet 0
 no_lead_in some = absurd (omega (arith, some))
 
--- a sheet that is read from a text is the one that the text says
+-- the sheet that is read from a text is the only one
 pub read_so : (sheet : CueSheet) (text : List ℕ) → read_cue text ≡ Ok trial_sheet → read_cue text ≡ Ok sheet
     → sheet ≡ trial_sheet
 read_so sheet text read is = cc

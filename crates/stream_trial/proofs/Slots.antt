@@ -1,4 +1,4 @@
--- The words that come with the slots of a stream.
+-- The words that end with the slots of a stream.
 use Rattle.std.proofs.Common.{◌≡◌, ℕ, zero, suc, ◌+◌, ◌-◌, ◌*◌, ◌%◌, ◌<◌, ◌≤◌, List, [], ◌∷◌, ◌++◌, length, get_or, map, take, drop, refl, sym, ap, ap₂, ◌∙◌, arith, append-nil, length-append, length-drop, All, append_assoc}
 use Rattle.std.specs.Prelude.{slice_index}
 use Rattle.std.proofs.lemmas.Grind.{same_number_lists}
@@ -18,7 +18,7 @@ use Rattle.rw_interleave.proofs.Ranges.{map_range}
 use Rattle.rw_interleave.proofs.Places.{swapped-lt}
 use Rattle.stream_trial.specs.Course.{stream_block, stream_slot, slots_before, gathered_before, words_with_stream_block}
 
--- what the law on gatherers says
+-- the law about gatherers
 abbrev pub GathersWords : Type 0
 GathersWords = (slots : List (List ℕ)) → All (λ slot. length slot ≡ 24) slots
     → run_gives gather_next gather_gives [] slots ≡ map (word_of (concat slots))
@@ -66,7 +66,7 @@ words_before law bytes n fits =
     ∙ ap₂ (λ (s : List ℕ) (k : ℕ). map (word_of s) (below (k - 7))) (slots_together bytes n)
     (length-map-range_with_len (stream_slot bytes) 0 n)
 
--- a word that is whole in the first slots is that of all symbols
+-- a word that is whole in the first slots is the same word in all symbols
 word_of_front : (bytes : List ℕ) (k n : ℕ) → k + 7 < n
     → word_of (symbols_of (take (24 * n) bytes)) k ≡ word_of (symbols_of bytes) k
 unfolding word_of
@@ -123,7 +123,7 @@ block_more bytes b fits =
     ∷ sym (slot_is bytes b 2 (4 * b + 1 + 1) fits (omega arith) (omega arith)) i
     ∷ sym (slot_is bytes b 3 (4 * b + 1 + 1 + 1) fits (omega arith) (omega arith)) i ∷ [])
 
--- one block more
+-- one more block
 pub gathered_more : (bytes : List ℕ) (b : ℕ) → 96 * b + 96 ≤ length bytes
     → gathered_before bytes (b + 1) ≡ run_state gather_next (gathered_before bytes b)
     (slots_in (stream_block bytes b) 0 4)
@@ -131,7 +131,7 @@ gathered_more bytes b fits =
     ap (run_state gather_next []) (block_more bytes b fits)
     ∙ run_state-append gather_next [] (slots_before bytes (4 * b)) (slots_in (stream_block bytes b) 0 4)
 
--- what block b gives, after the words of the blocks before
+-- the words that end with block b follow the words of the earlier blocks
 words_more : GathersWords → (bytes : List ℕ) (b : ℕ) → 96 * b + 96 ≤ length bytes
     → map (word_of (symbols_of (take (24 * (4 * b)) bytes))) (below (4 * b - 7))
     ++ words_with_stream_block bytes b ≡ map (word_of (symbols_of (take (24 * (4 * (b + 1))) bytes)))
@@ -144,7 +144,7 @@ words_more law bytes b fits =
     ∙ ap (run_gives gather_next gather_gives []) (sym (block_more bytes b fits))
     ∙ words_before law bytes (4 * (b + 1)) (omega arith)
 
--- each slot but the first seven ends a word
+-- each slot except the first seven ends a word
 pub length-given : GathersWords → (bytes : List ℕ) (b : ℕ) → 96 * b + 96 ≤ length bytes
     → 4 * b - 7 + length (words_with_stream_block bytes b) ≡ 4 * (b + 1) - 7
 length-given law bytes b fits =
@@ -162,7 +162,7 @@ length-given law bytes b fits =
       length-map-range_with_len after 0 (4 * (b + 1) - 7),
     )
 
--- the words come in turn
+-- the words are in order
 pub given_at : GathersWords → (bytes : List ℕ) (b j : ℕ) → 96 * b + 96 ≤ length bytes
     → j < length (words_with_stream_block bytes b)
     → get_or (words_with_stream_block bytes b) j [] ≡ word_of (symbols_of bytes) (4 * b - 7 + j)

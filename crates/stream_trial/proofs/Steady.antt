@@ -1,5 +1,4 @@
--- What a trial knows while it is under way is one fact or none: a sink keeps it truncated, and gives it where
--- it is asked.
+-- What a running trial knows is one optional fact: a sink keeps it truncated, and returns it on request.
 use Rattle.std.proofs.Common.{◌≡◌, ℕ, ◌*◌, ◌<◌, ◌≤◌, List, Some, None}
 use Rattle.std.specs.Prelude.{slice_index}
 use Rattle.std.specs.declared.option.Option.{Option}

@@ -30,7 +30,7 @@ use Rattle.stream_trial.specs.declared.trying.TrialStop.TheVariants.{NoMemory, W
 use Rattle.std.specs.Io.KnownBytes.{Appends}
 use Rattle.cdg_io.specs.Moves.{AppendsPrefix}
 
--- the laws that this rests on
+-- the laws that this file uses
 abbrev pub ScratchesDamage : Type 0
 ScratchesDamage = (lead_in seed blocks : ℕ) (bytes : List ℕ) → length bytes ≡ 96 * blocks
     → IsDamaged (program_symbols Raw bytes lead_in) Raw
@@ -90,7 +90,7 @@ scratched_size : ChannelsStay
 scratched_size stay sheet script audio seed bytes others packs is authored = ap length is
     ∙ same_length stay seed bytes ∙ stream_size sheet script audio bytes packs authored
 
--- the stream with scratches carries its schedule through them
+-- the stream with scratches still has its schedule
 damaged_schedule : ScratchesDamage → ChannelsStay
     → (sheet : CueSheet) (script : List Drawing) (audio seed : ℕ) (bytes others : List ℕ)
     (packs : List (List ℕ)) → others ≡ scratched 0 seed bytes
@@ -124,13 +124,13 @@ trial_size has script count bytes packs authored =
     stream_size trial_sheet script (trial_audio count) bytes packs authored
     ∙ ap (λ n. 96 * n) (trial_program has count)
 
--- what is counted of each stream that carries the schedule
+-- the counts are right for each schedule of the stream
 abbrev pub Plays : List Drawing → List ℕ → Found → Type 0
 Plays script others found = (symbols : List ℕ) (packs : List (List ℕ))
     → IsDamagedSchedule script (length others / 96) symbols packs (symbols_of others)
     → IsPlayedOut script (length others / 96) symbols (symbols_of others) found
 
--- what is counted of the stream with scratches
+-- the counts of the stream with scratches
 pub played_out : HasBlocks → ScratchesDamage → ChannelsStay
     → (script : List Drawing) (count seed : ℕ) (bytes : List ℕ) (packs : List (List ℕ)) (found : Found)
     → IsAuthored (disc_of trial_sheet script 0 (trial_audio count)) bytes packs
@@ -183,7 +183,7 @@ trial_played has damage stay script seed count seed' count' bytes packs found sc
           its,
     )
 
--- what is told of a stream that was played out is the text of a trial
+-- the report on a stream that was played is the text of a trial
 pub is_trial : SheetIsRead → ScriptsAreRead → ScriptsHavePictures
     → (seed count : ℕ) (script : List Drawing) (bytes : List ℕ) (packs : List (List ℕ)) (found : Found)
     (report : Report)

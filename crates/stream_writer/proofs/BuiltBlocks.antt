@@ -1,4 +1,4 @@
--- Blocks that are built of a P bit, bits of Q and symbols.
+-- Blocks that are built from a P bit, Q bits and symbols.
 use Rattle.std.proofs.Common.{◌≡◌, ℕ, zero, suc, ◌+◌, ◌/◌, ◌%◌, ◌<◌, Bool, true, false, List, [], ◌∷◌, length, replicate, refl, ap, ap₂, ne_eqb, eq-eqb, arith}
 use Rattle.std.specs.List.{AllByRecursion}
 use Rattle.std.proofs.lemmas.List.Elements.{All-from_recursion}

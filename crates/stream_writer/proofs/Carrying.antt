@@ -1,4 +1,4 @@
--- A disc that has a layout has a stream with any codewords.
+-- A disc with a layout has a stream for any codewords.
 use Rattle.std.proofs.Common.{◌≡◌, ℕ, ◌*◌, ◌<◌, ◌≤◌, false, List, [], length, get_or, take, drop, All, sym, ap, subst, ◌∙◌, inl, inr, arith}
 use Rattle.std.specs.List.{AllByRecursion}
 use Rattle.std.proofs.lemmas.List.{length-take-le, length-drop}
@@ -25,7 +25,7 @@ use Rattle.stream_writer.proofs.Frames.{sheet_program_valid, sheet_toc_valid}
 use Rattle.stream_writer.proofs.LeadIns.{IsSymbols, lead_in_is, packs_eighteen}
 use Rattle.stream_writer.proofs.BuiltBlocks.{is_built}
 
--- the symbols that carry packs are symbols
+-- the symbols of a stream that carries packs are below 64
 carried_small : (blocks : ℕ) (symbols : List ℕ) (packs : List (List ℕ)) → Carries blocks symbols packs
     → All (λ s. s < 64) symbols
 carried_small blocks symbols packs carries =
@@ -76,7 +76,7 @@ module _ (layout : DiscLayout) (texts : List (List ℕ)) (lead_in : ℕ) (symbol
   blocks_are : AreBuilt layout texts lead_in symbols
   blocks_are = record { contents = contents_built; program = program_built }
 
--- a disc that has a layout has a stream with any codewords, as many as it has room for
+-- a disc with a layout has a stream for any codewords, as many as fit
 pub carrying_stream : SpreadCarries → (sheet : CueSheet) (lead_in audio : ℕ) (packs : List (List ℕ))
     → IsSheet sheet → HasLayout sheet audio → lead_in ≤ 450000
     → length packs ≡ whole_packs (program_blocks sheet audio) → All IsCodeword packs

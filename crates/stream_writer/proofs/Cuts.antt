@@ -1,4 +1,4 @@
--- Bytes that are cut into blocks.
+-- Bytes cut into blocks.
 use Rattle.std.proofs.Common.{◌≡◌, ℕ, zero, suc, ◌+◌, ◌*◌, ◌/◌, ◌%◌, ◌<◌, List, [], ◌∷◌, ◌++◌, length, get_or, map, flat_map, take, drop, refl, sym, ap, ap₂, ◌∙◌, arith}
 use Rattle.std.specs.List.{range_with_len}
 use Rattle.std.proofs.lemmas.List.{map-append, map-id, drop-drop, take_all, take-append-drop, length-drop, take-map, drop-map}
@@ -72,7 +72,7 @@ symbols_of_block bytes lead_in n b size =
     ∙ take-map f 96 (drop (96 * b) (drop (96 * lead_in) bytes))
     ∙ ap (λ xs. map f (take 96 xs)) (drop-drop (96 * b) (96 * lead_in) bytes ∙ ap (λ k. drop k bytes) there))
 
--- blocks in a row are a part of the bytes
+-- blocks one after another are a part of the bytes
 pub blocks_between : (bytes : List ℕ) (f : ℕ → List ℕ) (offset a n : ℕ)
     → ((b : ℕ) → b < a + n → f b ≡ bytes_at bytes (offset + b))
     → flat_map f (range_with_len a n) ≡ take (96 * n) (drop (96 * (offset + a)) bytes)
@@ -86,7 +86,7 @@ blocks_between bytes f offset a (suc n) each =
     ∙ ap (take (96 * n)) (ap (λ k. drop k bytes) (sym next) ∙ sym (drop-drop 96 (96 * (offset + a)) bytes)))
     ∙ sym (take-add 96 (96 * n) here) ∙ ap (λ k. take k here) all
 
--- bytes that are two lists of blocks
+-- bytes that consist of two lists of blocks
 pub two_parts : (bytes : List ℕ) (f g : ℕ → List ℕ) (lead_in n : ℕ) → length bytes ≡ 96 * (lead_in + n)
     → ((l : ℕ) → l < lead_in → f l ≡ bytes_at bytes l)
     → ((b : ℕ) → b < n → g b ≡ bytes_at bytes (lead_in + b))

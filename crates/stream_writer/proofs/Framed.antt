@@ -1,4 +1,4 @@
--- The blocks of a stream that is made of them.
+-- The blocks of a stream.
 use Rattle.std.proofs.Common.{◌≡◌, ℕ, zero, suc, ◌+◌, ◌-◌, ◌*◌, ◌/◌, ◌<◌, ◌≤◌, false, List, [], ◌∷◌, ◌++◌, length, get_or, map, flat_map, take, drop, All, refl, sym, ap, ap₂, subst, ◌∙◌, arith}
 use Rattle.std.specs.List.{concat, range_with_len}
 use Rattle.std.proofs.lemmas.List.{length-append, map-id, drop-drop, take-append-drop, drop_all, get_or_append_left, get_or-append_right}
@@ -15,12 +15,12 @@ use Rattle.cdtext_packs.specs.LeadIn.{lead_in_symbols}
 use Rattle.stream_writer.specs.Blocks.{lead_in_block, program_block, symbols_at, stream_bytes, HasChannels, IsBuilt}
 use Rattle.stream_writer.specs.Framing.{raw_block, HasFraming}
 
--- 96 bytes
+-- the block has 96 bytes
 record IsBlock (block : List ℕ) : Type 0 where
   size : length block ≡ 96
   are_bytes : All (λ byte. byte < 256) block
 
--- each of them has 96 bytes
+-- each block has 96 bytes
 abbrev AreBlocks : List (List ℕ) → Type 0
 AreBlocks [] = Unit {0}
 AreBlocks (block ∷ blocks) = IsBlock block × AreBlocks blocks
@@ -86,7 +86,7 @@ lead_in_blocks layout texts lead_in = map (lead_in_block layout texts lead_in) (
 abbrev blocks_after : DiscLayout → List ℕ → List (List ℕ)
 blocks_after layout symbols = map (program_block layout symbols) (below layout.blocks)
 
--- what is known of each block
+-- the facts about each block
 pub record AreBuilt (layout : DiscLayout) (texts : List (List ℕ)) (lead_in : ℕ) (symbols : List ℕ) : Type
     0 where
   pub contents : (l : ℕ) → l < lead_in

@@ -27,7 +27,7 @@ later : {X : Type 0} (p : X → Bool) (x : X) (xs : List X) (d : X) → p x ≡ 
 later p x xs d fails none zero lt = fails
 later p x xs d fails none (suc i) lt = none i (omega arith)
 
--- what is found is in the list, and where nothing is found, nothing passes
+-- an element that is found is in the list; if none is found, none passes
 found_or_none : {X : Type 0} (p : X → Bool) (xs : List X) (d : X)
     → ((i : ℕ) × (i < length xs) × (find p xs ≡ Some (get_or xs i d)))
     ⊎ ((find p xs ≡ None) × ((i : ℕ) → i < length xs → p (get_or xs i d) ≡ false))
@@ -68,7 +68,7 @@ if_below : (limit : ℕ) (b : Bool) (m n : ℕ) → m < limit → n < limit → 
 if_below limit true m n p q = p
 if_below limit false m n p q = q
 
--- the number of an index line
+-- the number of an index line is below 100
 index_below : (place : TrackPlace) (block : ℕ) → AreIndices place.lines → index_at place block ≤ 99
 unfolding index_at
 index_below place block good =
@@ -172,7 +172,7 @@ module _ (layout : DiscLayout) (good : IsLayout layout)
   program_valid block within = let (k, lt, is) = track_is block in
       place_valid block within k lt (track_at layout block) is
 
-  -- an entry of the table of contents
+  -- the entry is a valid entry of the table of contents
   abbrev IsEntry : ℕ × TocPoint → Type 0
   IsEntry entry = (entry.0 < 16) × IsValidPoint entry.1
 

@@ -1,4 +1,4 @@
--- The symbols of a lead-in block are 96 symbols.
+-- A lead-in block has 96 symbols.
 use Rattle.std.proofs.Common.{◌≡◌, ℕ, zero, suc, ◌+◌, ◌*◌, ◌/◌, ◌%◌, ◌<◌, ◌^◌, Bool, true, false, List, [], ◌∷◌, ◌++◌, length, get_or, map, flat_map, take, drop, replicate, refl, sym, subst, ◌∙◌, lit<, ne_eqb, eq-eqb, inl, inr, arith}
 use Rattle.std.specs.Prelude.{if◌then◌else◌}
 use Rattle.std.specs.List.{AllByRecursion}

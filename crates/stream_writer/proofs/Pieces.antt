@@ -1,4 +1,4 @@
--- Bytes that are put piece by piece.
+-- Bytes that are written piece by piece.
 use Rattle.std.proofs.Common.{◌≡◌, ℕ, zero, suc, ◌+◌, ◌-◌, ◌<◌, List, [], ◌∷◌, ◌++◌, length, take, flat_map, refl, sym, ap, subst, ◌∙◌, append_assoc, Result, Ok, Err, OnErr, arith}
 use Rattle.std.proofs.lemmas.Grind.{flat_map-append}
 use Rattle.std.proofs.Math.Seq.{take-append-add}
@@ -19,14 +19,14 @@ range_more a (suc n) = let e : a + 1 + n ≡ a + suc n = omega arith in
 below_more : (n : ℕ) → below (suc n) ≡ below n ++ n ∷ []
 below_more n = let e : 0 + n ≡ n = omega arith in range_more 0 n ∙ ap (λ k. below n ++ k ∷ []) e
 
--- one piece more
+-- one more piece
 pub pieces_more : (f : ℕ → List ℕ) (n : ℕ) → flat_map f (below (suc n)) ≡ flat_map f (below n) ++ f n
 pieces_more f n =
     ap (flat_map f) (below_more n)
     ∙ flat_map-append f (below n) (n ∷ [])
     ∙ ap (λ xs. flat_map f (below n) ++ xs) (append-nil (f n))
 
--- the first pieces stand in front of all
+-- the first pieces are at the front of all pieces
 pub pieces_front : (f : ℕ → List ℕ) (n k m : ℕ) → m ≡ k + n
     → (rest : List ℕ) × (flat_map f (below m) ≡ flat_map f (below n) ++ rest)
 pieces_front f n zero m at =
@@ -42,7 +42,7 @@ pieces_front f n (suc k) m at =
           ∙ append_assoc (flat_map f (below n)) rest (f (k + n)),
     )
 
--- a prefix of the next piece is one of all
+-- a prefix of the next piece is a prefix of all bytes
 pub prefix_on : (a b c : Option (List ℕ)) (xs ys zs whole : List ℕ) → Appends a b xs → AppendsPrefix b c ys
     → whole ≡ xs ++ (ys ++ zs)
     → AppendsPrefix a c whole
@@ -63,14 +63,14 @@ prefix_first a c ys zs whole (n, within, more) e =
     let part : take n whole ≡ take n ys = ap (take n) e ∙ take-append-le n ys zs within in
     (n, omega (arith, ap length e, length-append ys zs), subst (Appends a c) (sym part) more)
 
--- What was put ends within the last piece.
+-- The written bytes end within the last piece.
 pub between_pieces : (a b c : Option (List ℕ)) (low piece high : List ℕ) → Appends a b low
     → AppendsPrefix b c piece → high ≡ low ++ piece
     → AppendsBetween a c low high
 between_pieces a b c low piece high put (n, within, more) grown =
     between a c low piece high n grown (Appends-trans a b c _ _ put more)
 
--- the same after what was put before
+-- The same, after earlier bytes.
 pub between_after : (a b c : Option (List ℕ)) (first low high : List ℕ) → Appends a b first
     → AppendsBetween b c low high
     → AppendsBetween a c (first ++ low) (first ++ high)
@@ -85,7 +85,7 @@ between_after a b c first low high put (bytes, more, begins, grows) = (
       ∙ ap (λ l. first ++ l) grows,
 )
 
--- The header and the first pieces were put, and a prefix of the next one.
+-- The header and the first pieces were written, and a prefix of the next piece.
 pub prefix_of_pieces : (a b c : Option (List ℕ)) (head : List ℕ) (f : ℕ → List ℕ) (count n : ℕ) → n < count
     → Appends a b (head ++ flat_map f (below n)) → AppendsPrefix b c (f n)
     → AppendsPrefix a c (head ++ flat_map f (below count))
@@ -96,7 +96,7 @@ prefix_of_pieces a b c head f count n lt put part =
     prefix_on a b c (head ++ flat_map f (below n)) (f n) rest _ put part
     (ap (λ xs. head ++ xs) front ∙ sym (append_assoc head (flat_map f (below n)) (f n ++ rest)))
 
--- The first pieces and the next one were put.
+-- The first pieces and the next piece were written.
 pub one_piece_more : (a b c : Option (List ℕ)) (head : List ℕ) (f : ℕ → List ℕ) (n : ℕ)
     → Appends a b (head ++ flat_map f (below n)) → Appends b c (f n)
     → Appends a c (head ++ flat_map f (below (n + 1)))

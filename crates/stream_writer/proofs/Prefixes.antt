@@ -22,7 +22,7 @@ use Rattle.stream_writer.proofs.Slots.{length-symbols_from, symbols_from-append,
 use Rattle.stream_writer.proofs.Symbols.{same_symbols}
 use Rattle.stream_writer.proofs.SameBytes.{stream_is}
 
--- the packs of so many blocks, one for each number, with idle packs at their end
+-- the packs of some blocks, with one pack for each number and idle packs at their end
 module _ (Comes : ℕ → List ℕ → Type 0)
     (one : (n : ℕ) (pack other : List ℕ) → Comes n pack → Comes n other → pack ≡ other)
     (blocks : ℕ) (packs : List (List ℕ)) (count : length packs ≡ whole_packs blocks)
@@ -63,7 +63,7 @@ module _ (Comes : ℕ → List ℕ → Type 0)
       ∙ filled_at k (get_or given k []) (omega (arith, inside, le))
       (subst (λ m. Comes m (get_or given k [])) here (are.each k inside)))
 
-  -- the symbols of the given packs stand in front of all
+  -- the symbols of the written packs are at the front of all symbols
   symbols_front : (n : ℕ) (given : List (List ℕ)) → n ≤ blocks → AreGiven Comes 0 (4 * n) given
       → (more : List ℕ)
       × (symbols_from [] (filled_with_idle (4 * blocks) packs) ≡ symbols_from [] given ++ more)
@@ -76,7 +76,7 @@ module _ (Comes : ℕ → List ℕ → Type 0)
         ap (symbols_from []) whole ∙ symbols_from-append [] given (drop (4 * n) filled),
       )
 
--- the first blocks of a stream with more symbols
+-- the first blocks of a stream that has more symbols
 stream_front : (layout : DiscLayout) (texts : List (List ℕ)) (lead_in n blocks : ℕ)
     (symbols more all : List ℕ) → n ≤ blocks → length symbols ≡ 96 * n → all ≡ symbols ++ more
     → (rest : List ℕ)
@@ -95,7 +95,7 @@ stream_front layout texts lead_in n blocks symbols more all le size joined =
           ∙ sym (append_assoc start (flat_map g (below n)) rest),
     )
 
--- a part of a stream is a prefix of one that carries the packs that come
+-- a part of a stream is a prefix of one that carries the packs to come
 pub prefix_of_stream : SpreadCarries → (Comes : ℕ → List ℕ → Type 0)
     → ((n : ℕ) (pack other : List ℕ) → Comes n pack → Comes n other → pack ≡ other)
     → (layout : DiscLayout) (texts : List (List ℕ)) (lead_in n : ℕ) (bytes : List ℕ)

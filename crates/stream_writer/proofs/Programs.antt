@@ -1,4 +1,4 @@
--- The program blocks that were put, and one more.
+-- The program blocks that were written, and one more block.
 use Rattle.std.proofs.Common.{◌≡◌, ℕ, zero, suc, ◌+◌, ◌*◌, ◌<◌, List, [], ◌++◌, length, flat_map, inl, inr, refl, sym, ap, ap₂, subst, ◌∙◌, arith}
 use Rattle.std.specs.List.{range_with_len}
 use Rattle.std.specs.declared.option.Option.{Option}
@@ -25,7 +25,7 @@ same_in_range f g a (suc n) same =
     ap₂ (λ xs ys. xs ++ ys) (same a (omega arith))
     (same_in_range f g (a + 1) n (λ i lt. same i (omega arith)))
 
--- The first blocks were put, and four packs a block were given.
+-- The first blocks were written, and four packs were read for each.
 pub record AreDone (layout : DiscLayout) (Comes : ℕ → List ℕ → Type 0) (n : ℕ) (held held' : Option (List ℕ))
     (spread : List (List ℕ)) : Type 0 where
   pub packs : List (List ℕ)
@@ -42,7 +42,7 @@ none_done layout Comes held spread start = record {
   spread_is = start;
 }
 
--- the packs of one block more, and what its symbols are
+-- the packs of one more block, and its symbols
 record NextBlock (layout : DiscLayout) (Comes : ℕ → List ℕ → Type 0) (n : ℕ) (packs four : List (List ℕ))
     (symbols : List ℕ) : Type 0 where
   given_are : AreGiven Comes 0 (4 * (n + 1)) (packs ++ four)
@@ -88,7 +88,7 @@ next_block layout Comes Later n before after packs four symbols given_are spread
       last = last;
     }
 
--- one block more
+-- one more block
 pub block_more : (layout : DiscLayout) (Comes Later : ℕ → List ℕ → Type 0) (n : ℕ)
     (held held' held'' : Option (List ℕ)) (before after : List (List ℕ)) (symbols block : List ℕ)
     → AreDone layout Comes n held held' before → ComesLater Comes (4 * n) Later
@@ -134,7 +134,7 @@ block_more layout Comes Later n held held' held'' before after symbols block don
           ∙ sym (run_state-append [] packs four);
     }
 
--- a prefix of one block more
+-- a prefix of one more block
 pub part_more : (layout : DiscLayout) (Comes Later : ℕ → List ℕ → Type 0) (n : ℕ)
     (held held' held'' : Option (List ℕ)) (before after : List (List ℕ)) (symbols block : List ℕ)
     → AreDone layout Comes n held held' before → n < layout.blocks → ComesLater Comes (4 * n) Later

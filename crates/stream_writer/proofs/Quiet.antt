@@ -1,4 +1,4 @@
--- Idle packs in a row.
+-- Idle packs one after another.
 use Rattle.std.proofs.Common.{◌≡◌, ℕ, zero, suc, ◌+◌, ◌-◌, ◌<◌, ◌≤◌, List, [], ◌∷◌, ◌++◌, length, drop, replicate, Some, refl, sym, ap, subst, ◌∙◌, append_assoc, arith}
 use Rattle.std.proofs.lemmas.List.{get_or-replicate, length-append, length-drop, length-replicate, append-nil, drop-append-le}
 use Rattle.rw_code.specs.Codeword.{IsCodeword}
@@ -23,7 +23,7 @@ length-next packs pack few = omega (
   length-append packs (pack ∷ []),
 )
 
--- none of the last packs is idle
+-- none of the last packs is known to be idle
 pub none_quiet : (packs : List (List ℕ)) → length packs ≤ 7 → AreQuiet packs 0
 none_quiet packs few = record { few = few; before = packs; idle = sym (append-nil packs) }
 
@@ -34,7 +34,7 @@ pub loud : (packs : List (List ℕ)) (quiet : ℕ) (pack : List ℕ) → AreQuie
     → AreQuiet (spread_next packs pack) 0
 loud packs quiet pack are = none_quiet (spread_next packs pack) (length-next packs pack are.few)
 
--- one idle pack more
+-- one more idle pack
 pub one_quiet : (packs : List (List ℕ)) (quiet : ℕ) → AreQuiet packs quiet → quiet < 7
     → AreQuiet (spread_next packs idle_pack) (quiet + 1)
 unfolding spread_next
@@ -56,7 +56,7 @@ one_quiet packs quiet are lt =
       idle = ap (drop cut) all ∙ drop-append-le cut are.before (replicate (quiet + 1) idle_pack) within;
     }
 
--- all of them
+-- all of the last seven packs are idle
 all_quiet : (packs : List (List ℕ)) (quiet : ℕ) → AreQuiet packs quiet → 7 ≤ quiet
     → packs ≡ replicate 7 idle_pack
 all_quiet packs quiet are most =
@@ -82,7 +82,7 @@ idle_gives : spread_gives (replicate 7 idle_pack) idle_pack ≡ Some idle_pack
 unfolding spread_gives spread_over spread_symbol swapped
 idle_gives = refl
 
--- after seven idle packs another one brings zeros and leaves them
+-- after seven idle packs, another idle pack has a slot of zeros and changes nothing
 pub still_quiet : (Comes : ℕ → List ℕ → Type 0) (packs : List (List ℕ)) (quiet : ℕ) → AreQuiet packs quiet
     → 7 ≤ quiet → Comes 0 idle_pack → IsCodeword idle_pack
     → TakesPack Comes packs packs idle_pack idle_pack
@@ -103,7 +103,7 @@ four_give : symbols_from (replicate 7 idle_pack) (replicate 4 idle_pack) ≡ rep
 unfolding spread_next spread_gives spread_over spread_symbol swapped
 four_give = refl
 
--- after seven idle packs the four of a block bring zeros and leave them
+-- after seven idle packs, four idle packs have a block of zeros and change nothing
 pub quiet_block : (Comes : ℕ → List ℕ → Type 0) (packs : List (List ℕ)) (quiet : ℕ) → AreQuiet packs quiet
     → 7 ≤ quiet → ((k : ℕ) → k < 4 → Comes k idle_pack) → IsCodeword idle_pack
     → TakesPacks Comes 4 (from_to packs packs) (replicate 96 0) (replicate 4 idle_pack)

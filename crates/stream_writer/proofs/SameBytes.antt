@@ -1,4 +1,4 @@
--- A stream is made of its channels and its symbols, and its packs fix it.
+-- The channels and symbols of a stream determine its bytes, and so do its packs.
 use Rattle.std.proofs.Common.{◌≡◌, ℕ, ◌+◌, ◌*◌, ◌<◌, Bool, false, List, length, drop, All, sym, ap, subst, ◌∙◌, arith}
 use Rattle.std.proofs.lemmas.List.{length-take-le, length-drop}
 use Rattle.std.proofs.lemmas.List.Elements.{All-take, All-drop}
@@ -15,7 +15,7 @@ use Rattle.stream_writer.proofs.Built.{made_of}
 use Rattle.stream_writer.proofs.Cuts.{bytes_at, raw_block_at, symbols_of_block, two_parts}
 use Rattle.stream_writer.proofs.Symbols.{same_symbols}
 
--- a block of bytes has its P bit, its frame and its symbols, and nothing else
+-- a block of bytes is determined by its P bit, its frame and its symbols
 block_is : (paused : Bool) (frame : QFrame) (symbols block : List ℕ) → length block ≡ 96
     → All (λ b. b < 256) block → HasChannels block paused frame → symbols_of block ≡ symbols
     → built_block paused (bits_of_frame frame) symbols ≡ block
@@ -63,7 +63,7 @@ module _ (layout : DiscLayout) (texts : List (List ℕ)) (lead_in : ℕ) (bytes 
       (program_block layout (program_symbols Raw bytes lead_in)) lead_in layout.blocks framing.size lead_in_is
       program_is
 
--- the packs and the framing fix the bytes
+-- the packs and the framing determine the bytes
 pub same_bytes : (layout : DiscLayout) (texts : List (List ℕ)) (lead_in : ℕ) (bytes bytes' : List ℕ)
     (packs packs' : List (List ℕ)) → packs ≡ packs'
     → HasFraming layout texts lead_in bytes → HasFraming layout texts lead_in bytes'

@@ -1,4 +1,4 @@
--- The strings of a sheet have no zero byte, and make its texts.
+-- The strings of a sheet have no zero byte, and form its texts.
 use Rattle.std.proofs.Common.{◌≡◌, ◌≢◌, ℕ, ◌+◌, ◌-◌, ◌<◌, ◌≤◌, Bool, true, not, ◌&&◌, ◌||◌, ◌==◌, List, [], ◌∷◌, ◌++◌, length, get_or, take, drop, map, replicate, unwrap_or, Option, Some, None, All, IsTrue, inl, inr, refl, sym, ap, ◌∙◌, subst, arith}
 use Rattle.std.specs.List.{list_all}
 use Rattle.std.specs.Char.{is_ascii_digit, is_ascii_uppercase}
@@ -163,7 +163,7 @@ pub length-for_each : (sheet : CueSheet) (f : ℕ → List ℕ) (strings : List 
     → length strings ≡ length sheet.tracks + 1
 length-for_each sheet f strings is = ap length is ∙ length-map-range_with_len f 0 (length sheet.tracks + 1)
 
--- the texts of a sheet with this last number and so many empty strings of the kinds that it does not have
+-- the texts of a sheet with this last number and with `count` empty strings of each kind that it lacks
 abbrev sized : CueSheet → ℕ → ℕ → Texts
 sized sheet last count = record {
   first = (track_of sheet 0).number;

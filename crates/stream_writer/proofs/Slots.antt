@@ -32,7 +32,7 @@ length-written symbols slot k size one below =
     length-append (take (24 * k) symbols) (slot ++ drop (24 * k + 24 - 24 * k) (drop (24 * k) symbols)) in
     omega arith
 
--- The zeros that stand where nothing is written yet
+-- The zeros where nothing is written yet
 
 pub slot_zeros : (symbols : List ℕ) (k : ℕ) → k < 4 → drop (24 * k) symbols ≡ replicate (96 - 24 * k) 0
     → take (24 * k + 24 - 24 * k) (drop (24 * k) symbols) ≡ replicate 24 0
@@ -52,7 +52,7 @@ zeros_after symbols slot k size one below zeros =
     ∙ sym (ap (λ n. drop n symbols) there) ∙ sym (drop-drop 24 (24 * k) symbols)
     ∙ ap (drop 24) zeros ∙ drop-replicate 24 (96 - 24 * k) 0 ∙ ap (λ n. replicate n 0) left
 
--- Packs that are given
+-- Packs that are read
 
 pub none_given : (Comes : ℕ → List ℕ → Type 0) (first : ℕ) → AreGiven Comes first 0 []
 none_given Comes first =
@@ -90,7 +90,7 @@ given_more Comes first m next n all xs ys these those start sum = record {
   codewords = All-append IsCodeword xs ys these.codewords those.codewords;
 }
 
--- packs that come later
+-- packs that are read later
 pub given_later : (Comes Later : ℕ → List ℕ → Type 0) (many n : ℕ) (packs : List (List ℕ))
     → ComesLater Comes many Later → AreGiven Later 0 n packs
     → AreGiven Comes many n packs
@@ -162,7 +162,7 @@ none_written Comes before symbols zeros = record {
   rest = zeros;
 }
 
--- one slot more
+-- one more slot
 pub slot_more : (Comes Later : ℕ → List ℕ → Type 0) (before t t' : List (List ℕ)) (k : ℕ)
     (symbols pack slot : List ℕ)
     → AreWritten Comes before t k symbols → k < 4 → ComesLater Comes k Later → Later 0 pack → IsCodeword pack
@@ -197,7 +197,7 @@ slot_more Comes Later before t t' k symbols pack slot so_far lt later is_pack co
       rest = zeros_after symbols slot k so_far.size one lt so_far.rest;
     }
 
--- all four are written
+-- all four slots are written
 all_of : (k : ℕ) (symbols : List ℕ) → k ≡ 4 → length symbols ≡ 96 → take (24 * k) symbols ≡ symbols
 all_of k symbols all size = take_all (24 * k) symbols (omega (arith, size))
 
@@ -219,7 +219,7 @@ pub all_small : (Comes : ℕ → List ℕ → Type 0) (before t : List (List ℕ
 all_small Comes before t k symbols written all =
     subst (All (λ x. x < 64)) (all_of k symbols all written.size) written.bound
 
--- The symbols of a block among those of all
+-- The symbols of a block among all symbols
 
 pub earlier_block : (symbols more : List ℕ) (n b : ℕ) → length symbols ≡ 96 * n → b < n
     → symbols_at (symbols ++ more) b ≡ symbols_at symbols b

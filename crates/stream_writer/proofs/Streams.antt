@@ -1,4 +1,4 @@
--- A whole stream that was put, or a prefix of one.
+-- A whole stream that was written, or a prefix of one.
 use Rattle.std.proofs.Common.{◌≡◌, ℕ, ◌*◌, ◌<◌, false, List, [], ◌++◌, length, flat_map, refl, sym, ap, ◌∙◌, arith}
 use Rattle.std.specs.declared.option.Option.{Option}
 use Rattle.std.specs.Io.KnownBytes.{Appends}
@@ -16,7 +16,7 @@ use Rattle.stream_writer.proofs.Pieces.{between_after, prefix_first, prefix_on}
 use Rattle.stream_writer.proofs.Slots.{none_given, none_later, length-symbols_from}
 use Rattle.stream_writer.proofs.Framed.{AreBuilt, framing, program_is}
 
--- the lead-in that is put
+-- the bytes of the lead-in
 abbrev lead_in_bytes : DiscLayout → List (List ℕ) → ℕ → List ℕ
 lead_in_bytes layout texts lead_in = flat_map (lead_in_block layout texts lead_in) (below lead_in)
 

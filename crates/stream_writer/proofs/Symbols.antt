@@ -1,4 +1,4 @@
--- The symbols that carry packs are fixed by them.
+-- The packs of a stream determine the symbols that carry them.
 use Rattle.std.proofs.Common.{◌≡◌, ◌≢◌, ◌⊎◌, ℕ, ◌+◌, ◌-◌, ◌*◌, ◌/◌, ◌%◌, ◌<◌, List, get_or, ap, sym, ◌∙◌, inl, inr, arith}
 use Rattle.std.proofs.lemmas.Bool.{cases_lt}
 use Rattle.std.proofs.lemmas.Grind.{same_number_lists}
@@ -20,14 +20,14 @@ symbol_of_pack symbols n i lt =
 place_of : (n q : ℕ) → q < 24 → place n (swapped q) ≡ 24 * (n + q % 8) + q
 place_of n q lt = ap (λ s. 24 * (n + s % 8) + s) (swapped_back q lt)
 
--- the pack whose symbol stands at a place would have this number
+-- the number of the pack that has a symbol at this place
 no_pack : (n i p : ℕ) → i < 24 → place n i ≡ p → p / 24 ≡ n + p % 24 % 8
 no_pack n i p lt here =
     let small : swapped i < 24 = swapped-lt i lt in
     let position : p % 24 ≡ swapped i = omega (arith, here, small) in
     omega (arith, here, small, position)
 
--- a place is one of a whole pack, or of none
+-- each place is the place of a symbol of a whole pack, or of no such symbol
 pub in_pack : (p whole : ℕ)
     → ((n : ℕ) × (i : ℕ) × (n < whole) × (i < 24) × (place n i ≡ p))
     ⊎ ((n i : ℕ) → n < whole → i < 24 → place n i ≢ p)

@@ -1,4 +1,4 @@
--- How many text packs a sheet has, and whether a lead-in has room for them.
+-- The number of text packs of a sheet, and whether a lead-in has room for them.
 use Rattle.std.proofs.Common.{◌≡◌, ◌≢◌, ◌⊎◌, ℕ, zero, suc, ◌+◌, ◌*◌, ◌/◌, ◌<◌, ◌≤◌, Bool, true, false, List, [], ◌∷◌, ◌++◌, length, map, flat_map, replicate, max, refl, sym, ap, subst, ◌∙◌, inl, inr, arith}
 use Rattle.std.specs.Prelude.{◌&&◌, if◌then◌else◌}
 use Rattle.std.specs.List.{enumerate_from, list_all}
@@ -18,7 +18,7 @@ use Rattle.cdtext_packs.specs.declared.kinds.TextKind.TheVariants.{Title, Perfor
 use Rattle.stream_writer.specs.SheetTexts.{code_at, for_each, sheet_texts}
 use Rattle.stream_writer.specs.Needs.{text_packs, lead_in_need, HasRoom, IsLeadInShort, IsTextTooLong}
 
--- The bytes of strings, each with a zero byte after it.
+-- The bytes of strings, with a zero byte after each.
 
 pub joined_more : (f : ℕ → List ℕ) (k bytes : ℕ) → bytes ≡ length (joined (map f (below k)))
     → bytes + (length (f k) + 1) ≡ length (joined (map f (below (k + 1))))
@@ -36,7 +36,7 @@ joined_more f k bytes is =
       length-append (f k) (0 ∷ []),
     )
 
--- strings are all empty, or have more bytes than zeros
+-- the strings are all empty, or they have more bytes than their zero bytes
 Emptiness : List (List ℕ) → Type 0
 Emptiness strings = ((are_empty strings ≡ true) × (length (joined strings) ≡ length strings))
     ⊎ ((are_empty strings ≡ false) × (length strings < length (joined strings)))
@@ -103,7 +103,7 @@ all_empty : (n : ℕ) → are_empty (replicate n []) ≡ true
 all_empty zero = refl
 all_empty (suc n) = all_empty n
 
--- How many packs texts have.
+-- The number of packs of texts.
 
 length-packs_of : (texts : Texts) → length (packs_of texts) ≡ length (contents texts)
 length-packs_of texts =
@@ -135,7 +135,7 @@ length-kinds texts = omega (
   length-kind texts Code,
 )
 
--- the kinds that a sheet does not have have no strings
+-- the texts have no strings of the kinds that a sheet lacks
 record HasFour (texts : Texts) : Type 0 where
   composer : are_empty texts.composer ≡ true
   arranger : are_empty texts.arranger ≡ true
@@ -161,7 +161,7 @@ length-with_text texts four some =
       none_filled texts.message four.message,
     )
 
--- where none of the four kinds fills a pack there is no text
+-- if none of the four kinds fills a pack, there is no text
 no_text : (texts : Texts) → HasFour texts → filled texts ≡ 0 → has_no_text texts ≡ true
 no_text texts four none =
     let t : are_empty texts.title ≡ true = empty_of_none texts.title (omega (arith, none)) in
@@ -171,7 +171,7 @@ no_text texts four none =
     and_from _ _ t (and_from _ _ p (and_from _ _ s (and_from _ _ four.composer
     (and_from _ _ four.arranger (and_from _ _ four.message (and_from _ _ c refl))))))
 
--- whether every string of the kinds from some one on is empty
+-- whether all strings of these kinds are empty
 abbrev none_from : Texts → List TextKind → Bool
 none_from texts rest = list_all (λ kind. are_empty (strings_of kind texts)) rest
 
@@ -179,7 +179,7 @@ none_here : (texts : Texts) (kind : TextKind) (rest : List TextKind) → none_fr
     → (are_empty (strings_of kind texts) ≡ true) × (none_from texts rest ≡ true)
 none_here texts kind rest none = and_parts (are_empty (strings_of kind texts)) (none_from texts rest) none
 
--- and where there is no text none fills a pack
+-- and if there is no text, no kind fills a pack
 none_of_no_text : (texts : Texts) → has_no_text texts ≡ true → filled texts ≡ 0
 none_of_no_text texts none =
     let after_message : List TextKind = Code ∷ [] in
@@ -220,7 +220,7 @@ length-unless_empty texts four = elim (cases_lt 0 (filled texts)) [
   ]
 ]
 
--- How many packs a sheet has.
+-- The number of packs of a sheet.
 
 pub packs_counted : (sheet : CueSheet) (all : ℕ)
     → all ≡ pack_count (for_each sheet (text_at cue.Title sheet))

@@ -1,4 +1,4 @@
--- The packs that were given, without those that the end of the stream cuts, and the symbols that carry them.
+-- The packs that were read, without those that the end of the stream cuts off, and the symbols that carry them.
 use Rattle.std.proofs.Common.{◌≡◌, ℕ, zero, suc, ◌+◌, ◌-◌, ◌*◌, ◌<◌, ◌≤◌, List, [], ◌∷◌, ◌++◌, length, get_or, take, drop, replicate, All, refl, sym, ap, subst, ◌∙◌, arith}
 use Rattle.std.specs.declared.option.Option.{Option}
 use Rattle.std.specs.Io.KnownBytes.{Appends}
@@ -14,12 +14,12 @@ use Rattle.stream_writer.specs.Framing.{HasFraming}
 use Rattle.rw_code.specs.Packs.{idle_pack}
 use Rattle.stream_writer.specs.Given.{AreGiven, CarriesComing, PutsStream, PutsStreamPart, framing_of, symbols_from}
 
--- the packs that the end of so many blocks cuts are idle
+-- the packs that the end of the blocks cuts off are idle
 abbrev pub AreCutIdle : (ℕ → List ℕ → Type 0) → ℕ → Type 0
 AreCutIdle Comes blocks =
     (n : ℕ) (pack : List ℕ) → whole_packs blocks ≤ n → n < 4 * blocks → Comes n pack → pack ≡ idle_pack
 
--- what the law of the layer below says
+-- the law of the crate below
 abbrev pub SpreadCarries : Type 0
 SpreadCarries = (blocks : ℕ) (packs : List (List ℕ)) → length packs ≡ whole_packs blocks
     → All IsCodeword packs
@@ -40,7 +40,7 @@ at_number : (Comes : ℕ → List ℕ → Type 0) (many : ℕ) (packs : List (Li
 at_number Comes many packs given n lt = let e : 0 + n ≡ n = omega arith in
     subst (λ k. Comes k (get_or packs n [])) e (given.each n lt)
 
--- the packs of the whole words, and idle packs behind them
+-- `packs` are the packs of the whole words, followed by idle packs
 pub record AreSplit (Comes : ℕ → List ℕ → Type 0) (blocks : ℕ) (packs whole : List (List ℕ)) : Type 0 where
   pub given_are : AreGiven Comes 0 (whole_packs blocks) whole
   pub filled : packs ≡ filled_with_idle (4 * blocks) whole
@@ -75,7 +75,7 @@ split Comes blocks packs idle given =
       filled = sym (take-append-drop whole packs) ∙ ap (λ (xs : List (List ℕ)). take whole packs ++ xs) rest;
     }
 
--- the stream that was put carries its whole packs
+-- the stream that was written carries its whole packs
 pub stream_written : SpreadCarries → (layout : DiscLayout) (Comes : ℕ → List ℕ → Type 0)
     (texts : List (List ℕ)) (lead_in : ℕ) (a b : Option (List ℕ))
     → AreCutIdle Comes layout.blocks
@@ -100,7 +100,7 @@ stream_written carries layout Comes texts lead_in a b idle (all, puts) =
       puts.put,
     )
 
--- without a lead-in the texts don't matter
+-- without a lead-in, the texts do not matter
 pub framing_with : (layout : DiscLayout) (xs ys : List (List ℕ)) (lead_in : ℕ) (bytes : List ℕ)
     → (0 < lead_in → xs ≡ ys) → HasFraming layout xs lead_in bytes
     → HasFraming layout ys lead_in bytes

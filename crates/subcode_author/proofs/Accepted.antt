@@ -1,4 +1,4 @@
--- The lines of a script that is accepted.
+-- The lines of an accepted script.
 use Rattle.std.proofs.Common.{◌≡◌, ℕ, suc, zero, ◌+◌, ◌-◌, ◌*◌, ◌<◌, ◌≤◌, Bool, true, false, List, [], ◌∷◌, ◌++◌, length, map, get_or, refl, sym, subst, ◌∙◌, arith, Result, Ok, Err, Some, None}
 use Rattle.std.specs.Prelude.{◌==◌, ◌&&◌, ◌||◌, not, nat_lt, codes, if◌then◌else◌}
 use Rattle.std.specs.declared.option.Option.{Option}
@@ -18,7 +18,7 @@ use Rattle.pack_schedule.specs.Shown.{AreTimesInOrder, AreColoursInRange}
 use Rattle.subcode_author.proofs.Ranges.{InColours, AllInColours, in_colours-append, pixels_in_range, colours_in_range}
 use Rattle.subcode_author.proofs.Times.{InOrder, none_in_order, one_more, shows_more, times_in_order}
 
--- What the spelling of a line tells of its colours: those of a table and of pixels are in their ranges.
+-- If a line is read, the colours of its table or its pixels are in their ranges.
 abbrev IsSpelled : Drawing → Type 0
 IsSpelled (Colour number value) = value < 4096
 IsSpelled (Row x y pixels) = (i : ℕ) → get_or pixels i 0 < 16
@@ -74,7 +74,7 @@ pixels_spelled word pixels h =
     subst (λ (ps : List ℕ). (i : ℕ) → get_or ps i 0 < 16) g.1
     (digits_below word (and_true (is_some_bytes word) (list_all is_ascii_hexdigit word) g.0).1)
 
--- What each kind of line says, once its words are spelled as they must be.
+-- The meaning of each kind of line, if its words are valid.
 
 some_is : {X : Type 0} (x y : X) → Some x ≡ Some y → x ≡ y
 some_is x y h = cc
@@ -163,7 +163,7 @@ show_line-spelled [] line h = absurd (cc)
 show_line-spelled (a ∷ []) line h = absurd (cc)
 show_line-spelled (a ∷ b ∷ c ∷ rest) line h = absurd (cc)
 
--- A line that is accepted after others.
+-- The line is accepted after the earlier lines.
 
 record IsTaken (before : List Drawing) (line : Drawing) : Type 0 where
   spelled : IsSpelled line
@@ -239,7 +239,7 @@ in_colours before (Rect x y width height colour) taken =
 in_colours before (Row x y pixels) taken = taken.spelled
 in_colours before (Show ready hold) taken = tt
 
--- Its times are in order.
+-- The times of an accepted line are in order.
 
 show_taken : (late room : Bool)
     → (if late then Some TimeOrder else (if room then Some TooMany else None)) ≡ None
@@ -269,7 +269,7 @@ times_more before (Rect x y width height colour) order taken =
 times_more before (Row x y pixels) order taken =
     subst InOrder (sym (shows_more before (Row x y pixels) ∙ append-nil (shows before))) order
 
--- The lines in turn.
+-- The lines one after another.
 
 record IsSound (script : List Drawing) : Type 0 where
   colours : AllInColours script
@@ -282,7 +282,7 @@ one_line_more before line sound taken = record {
   times = times_more before line sound.times taken;
 }
 
--- what one line of the text adds is sound
+-- one more line of the text is valid
 step_sound : (before next : List Drawing) (said : Result Drawing ScriptWhy) (passed : Bool)
     → ((line : Drawing) → said ≡ Ok line → IsTaken before line) → IsSound before
     → (if passed then Ok before else grown before said) ≡ Ok next → IsSound next

@@ -1,4 +1,4 @@
--- The changes of an accepted script end before the packs that the end of the stream cuts.
+-- The changes of an accepted script end before the packs that the end of the stream cuts off.
 use Rattle.std.proofs.Common.{◌≡◌, ℕ, ◌+◌, ◌-◌, ◌*◌, ◌<◌, ◌≤◌, List, length, replicate, inl, inr, arith}
 use Rattle.std.proofs.lemmas.Bool.{cases_lt}
 use Rattle.rw_interleave.specs.Interleave.{whole_packs}

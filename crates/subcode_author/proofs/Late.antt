@@ -1,4 +1,4 @@
--- The first picture that is late.
+-- The first late picture.
 use Rattle.std.proofs.Common.{◌≡◌, ℕ, zero, suc, ◌+◌, ◌*◌, ◌<◌, ◌⊎◌, List, length, refl, inl, inr, subst, arith}
 use Rattle.std.proofs.lemmas.Bool.{cases_lt}
 use Rattle.picture_script.specs.Script.{Drawing, pictures, ready_time, picture_pixel}
@@ -20,7 +20,7 @@ prompt_or_not script k =
       | inr enough ↦ inl enough
     ]
 
--- the first so many pictures are in time, or one of them is the first that is not
+-- the first n pictures are in time, or one of them is the first that is not
 pub first_late : (script : List Drawing) (n : ℕ)
     → ((j : ℕ) → j < n → IsPrompt script j)
     ⊎ ((k : ℕ) × (k < n) × (¬ IsPrompt script k) × ((j : ℕ) → j < k → IsPrompt script j))
@@ -78,7 +78,7 @@ pub ready_not_late : (script : List Drawing) (k need free : ℕ) → CanBeReady 
 ready_not_late script k need free (n, one, prompt) is =
     is.late (subst (IsInTime script k) (one_need script k n need one is.need_is) prompt)
 
--- the first late picture is one picture
+-- the first late picture is unique
 pub one_is_late : (script : List Drawing) (k need free k' need' free' : ℕ) → IsLate script k need free
     → IsLate script k' need' free' → k ≡ k'
 one_is_late script k need free k' need' free' is is' = elim (cases_lt k k') [

@@ -1,4 +1,4 @@
--- Each number of a script has one pack.
+-- Each pack number of a script has one pack.
 use Rattle.std.proofs.Common.{◌≡◌, ◌⊎◌, ℕ, zero, suc, ◌+◌, ◌<◌, ◌≤◌, List, [], length, get_or, drop, sym, subst, ◌∙◌, inl, inr, arith}
 use Rattle.std.proofs.lemmas.Bool.{cases_lt, cases_eq}
 use Rattle.std.proofs.lemmas.List.{ext_get_or, get_or-drop}
@@ -21,14 +21,14 @@ has_symbols instr word written =
       at_body = λ k lt. has.body k lt ∙ sym (get_or-drop 2 (written_symbols instr) k 0);
     }
 
--- one codeword is written for an instruction
+-- an instruction is written as one codeword
 pub one_written : (instr : Instr) (one other : List ℕ) → IsWritten instr one → IsWritten instr other
     → one ≡ other
 one_written instr one other a b =
     only_one_sealed (written_symbols instr) (drop 2 (written_symbols instr)) one other a.codeword b.codeword
     (has_symbols instr one a) (has_symbols instr other b)
 
--- a number lies in one of the first changes, or in none of them
+-- a pack number is in one of the first changes, or in none of them
 pub in_change : (script : List Drawing) (n m : ℕ)
     → ((k : ℕ)
     × (k < m)

@@ -1,4 +1,4 @@
--- What a stop of the pictures is for the whole.
+-- The stops of the planned pictures, as stops of the whole disc.
 use Rattle.cue_sheet.specs.CueSheet.{CueSheet}
 use Rattle.std.proofs.Common.{◌≡◌, ◌⊎◌, inl, inr, ℕ, ◌<◌, List, subst, sym}
 use Rattle.picture_script.specs.Script.{Drawing, picture_pixel}
@@ -16,7 +16,7 @@ picture_stop sheet script lead_in audio (Late picture need free) disc room late 
 picture_stop sheet script lead_in audio NoMemory disc room none = (disc, room)
 picture_stop sheet script lead_in audio stop disc room none = absurd none
 
--- a disc whose pictures are planned is refused no more
+-- for a disc whose pictures were planned, a call stops only if memory is not found or a write fails
 pub written_stop : (sheet : CueSheet) (script : List Drawing) (lead_in audio : ℕ) (stop : AuthorStop)
     → IsAccepted sheet script lead_in audio → (stop ≡ NoMemory) ⊎ (stop ≡ WriteFault)
     → IsAuthorStop sheet script lead_in audio stop

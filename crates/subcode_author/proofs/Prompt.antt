@@ -1,4 +1,4 @@
--- Where each picture is ready, its planned change is in time.
+-- If each picture can be ready, each planned change is in time.
 use Rattle.std.proofs.Common.{ℕ, ◌<◌, List, length, refl, subst}
 use Rattle.picture_script.specs.Script.{Drawing, pictures, picture_pixel}
 use Rattle.pack_schedule.specs.Brings.{IsChange, IsNeed}

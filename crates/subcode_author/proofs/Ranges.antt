@@ -33,7 +33,7 @@ either_below : (limit : ℕ) (b : Bool) (m n : ℕ) → m < limit → n < limit 
 either_below limit true m n p q = p
 either_below limit false m n p q = q
 
--- a picture whose colours are in their ranges
+-- the colours of the picture are in their ranges
 record IsSmall (picture : Picture) : Type 0 where
   pixels : (x y : ℕ) → picture.pixel x y < 16
   border : picture.border < 16

@@ -1,4 +1,4 @@
--- The packs that were given are a schedule.
+-- The packs that were written are a schedule.
 use Rattle.std.proofs.Common.{◌≡◌, ℕ, ◌+◌, ◌*◌, ◌<◌, ◌≤◌, List, [], length, get_or, refl, inr, subst, arith}
 use Rattle.std.specs.declared.option.Option.{Option}
 use Rattle.std.specs.Io.KnownBytes.{Appends}
@@ -21,7 +21,7 @@ use Rattle.subcode_author.specs.Authored.{IsWrittenStream, disc_of}
 use Rattle.subcode_author.specs.AuthorAnswer.{AreReady, HoldsPictures, IsAccepted}
 use Rattle.subcode_author.proofs.Prompt.{PlannedIsChange}
 
--- what is known of a script that has a schedule
+-- the facts about a script that has a schedule
 pub record IsPlannedScript (script : List Drawing) (blocks : ℕ) : Type 0 where
   pub within : IsWithin script blocks
   pub survey : List PlannedChange
@@ -54,7 +54,7 @@ is_accepted needs sheet script lead_in audio disc room ranges pixels planned = r
   ready = are_ready needs script planned.0 ranges pixels planned.1;
 }
 
--- a change ends before the packs that are cut
+-- a change ends before the packs that are cut off
 change_ends : (script : List Drawing) (blocks : ℕ) → IsPlannedScript script blocks → (k : ℕ)
     → k < pictures script
     → start_of script k + length (planned_change script k) + 7 ≤ 4 * blocks
@@ -65,11 +65,11 @@ change_ends script blocks known k lt =
     let within : hold_time script k ≤ blocks = known.within k lt in
     omega arith
 
--- the packs that a weaver gives, whose count stays at the last value of its type
+-- `pack` is the pack at number n from here, as long as the count of the weaver is not saturated
 abbrev pub PackOf : Woven → ℕ → List ℕ → Type 0
 PackOf woven n pack = woven.given + n < 4294967295 → IsPackAt woven.script (woven.given + n) pack
 
--- a weaver that has given none
+-- a weaver before its first pack
 pub record IsFirst (script : List Drawing) (woven : Woven) : Type 0 where
   pub script_is : woven.script ≡ script
   pub given_is : woven.given ≡ 0
@@ -82,7 +82,7 @@ pack_at script woven first n pack small comes =
     subst (λ s. IsPackAt s n pack) first.script_is
     (subst (λ k. IsPackAt woven.script k pack) here (comes (omega (arith, here))))
 
--- the packs that the end of the program cuts are idle
+-- the packs that the end of the program cuts off are idle
 pub cut_idle : (script : List Drawing) (woven : Woven) (blocks : ℕ) → blocks ≤ 449999 → IsFirst script woven
     → IsPlannedScript script blocks
     → (n : ℕ) (pack : List ℕ) → whole_packs blocks ≤ n → n < 4 * blocks → PackOf woven n pack
@@ -93,7 +93,7 @@ cut_idle script woven blocks few first known n pack past lt comes =
     change_ends script blocks known k below in
     inr (omega (arith, ends, past)))
 
--- what the law of the layer below says
+-- the law of the crate below
 abbrev pub PacksAreSchedule : Type 0
 PacksAreSchedule = (script : List Drawing) (blocks : ℕ) (survey : List PlannedChange) (packs : List (List ℕ))
     → AreColoursInRange script → ((k x y : ℕ) → picture_pixel script k x y < 16)
@@ -155,7 +155,7 @@ of_script script woven layout texts lead_in bytes packs few first stream = recor
   carries = stream.carries;
 }
 
--- the stream that was written is an authored one
+-- the stream that was written is an authored stream
 pub authored : PacksAreSchedule → (sheet : CueSheet) (script : List Drawing) (woven : Woven)
     (layout : DiscLayout) (texts : List (List ℕ)) (lead_in audio : ℕ) (a b : Option (List ℕ))
     → layout ≡ layout_of sheet audio → layout.blocks ≤ 449999 → IsFirst script woven
@@ -190,7 +190,7 @@ part_of_script script woven layout texts lead_in a b n packs few first part = re
   in_turn = part.in_turn;
 }
 
--- the part that was put is one of the stream of the sheet and the script
+-- the part that was written is a part of the stream of the sheet and the script
 pub part_of : (sheet : CueSheet) (script : List Drawing) (woven : Woven) (layout : DiscLayout)
     (texts : List (List ℕ)) (lead_in audio : ℕ) (a b : Option (List ℕ))
     → layout ≡ layout_of sheet audio → layout.blocks ≤ 449999 → IsFirst script woven

@@ -1,4 +1,4 @@
--- The reasons of a refusal come one after another, and each comes only where those before it do not hold.
+-- The reasons of a refusal have an order, and each one requires that the earlier ones do not hold.
 use Rattle.std.proofs.Common.{◌≡◌, ◌≢◌, ℕ, zero, suc, ◌<◌, ◌≤◌, ◌⊎◌, List, length, refl, inl, inr, ap, sym, subst, ◌∙◌, arith}
 use Rattle.std.proofs.lemmas.Bool.{cases_lt}
 use Rattle.cue_sheet.specs.CueSheet.{CueSheet}
@@ -14,7 +14,7 @@ use Rattle.subcode_author.specs.declared.stops.AuthorStop.TheVariants.{LengthSho
 use Rattle.subcode_author.proofs.Late.{NeedsAreKnown, one_is_late, ready_not_late}
 
 module _ (needs : NeedsAreKnown) (sheet : CueSheet) (script : List Drawing) (lead_in audio : ℕ) where
-  -- what is good at each stage; nothing is behind the last one
+  -- what must hold at each stage; after the last stage, nothing
   abbrev Passes : ℕ → Type 0
   Passes zero = audio_need sheet ≤ audio
   Passes (suc zero) = program_blocks sheet audio ≤ 449999
@@ -24,7 +24,7 @@ module _ (needs : NeedsAreKnown) (sheet : CueSheet) (script : List Drawing) (lea
   Passes (suc (suc (suc (suc (suc zero))))) = AreReady script
   Passes (suc (suc (suc (suc (suc (suc i)))))) = ⊥
 
-  -- the stage at which a reason comes
+  -- the stage of a reason
   abbrev stage : AuthorStop → ℕ
   stage (LengthShort need) = 0
   stage (DiscTooLong blocks) = 1
@@ -49,7 +49,7 @@ module _ (needs : NeedsAreKnown) (sheet : CueSheet) (script : List Drawing) (lea
   room_passes disc room (suc (suc (suc (suc zero)))) lt = λ some. (room some).1
   room_passes disc room (suc (suc (suc (suc (suc i))))) lt = absurd (omega (arith, lt))
 
-  -- where a reason comes, the stages before it are good,
+  -- if a reason holds, the earlier stages pass,
   earlier : (stop : AuthorStop) → IsAuthorStop sheet script lead_in audio stop → stop ≢ NoMemory → (i : ℕ)
       → i < stage stop
       → Passes i
@@ -71,7 +71,7 @@ module _ (needs : NeedsAreKnown) (sheet : CueSheet) (script : List Drawing) (lea
   ]
   earlier NoMemory h told i lt = absurd (told refl)
 
-  -- and its own is not
+  -- and its own stage does not
   fails : (stop : AuthorStop) → IsAuthorStop sheet script lead_in audio stop → stop ≢ NoMemory
       → ¬ Passes (stage stop)
   fails (LengthShort need) h told = λ good. omega (arith, h.1, good)
@@ -93,7 +93,7 @@ module _ (needs : NeedsAreKnown) (sheet : CueSheet) (script : List Drawing) (lea
       let frees : free ≡ free' = is.free_is ∙ ap (free_packs script) picture ∙ sym is'.free_is in
       ap (λ j. Late j need free) picture ∙ ap (λ n. Late k' n free) same ∙ ap (λ n. Late k' need' n) frees
 
-  -- at one stage comes one reason
+  -- each stage has one reason
   same : (stop other : AuthorStop) → stage stop ≡ stage other → IsAuthorStop sheet script lead_in audio stop
       → IsAuthorStop sheet script lead_in audio other
       → stop ≡ other
@@ -125,7 +125,7 @@ module _ (needs : NeedsAreKnown) (sheet : CueSheet) (script : List Drawing) (lea
     ]
   ]
 
-  -- what is accepted is not refused
+  -- an accepted disc is not refused
   pub not_refused : (stop : AuthorStop) → IsAccepted sheet script lead_in audio
       → IsAuthorStop sheet script lead_in audio stop
       → (stop ≡ NoMemory) ⊎ (stop ≡ WriteFault)

@@ -1,4 +1,4 @@
--- The first blocks of a stream, with the packs that were given, are a prefix of the authored stream.
+-- The first blocks of a stream with the written packs are a prefix of the authored stream.
 use Rattle.std.proofs.Common.{ℕ, List}
 use Rattle.std.specs.declared.option.Option.{Option}
 use Rattle.cdg_io.specs.Moves.{AppendsPrefix}

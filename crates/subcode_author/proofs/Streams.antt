@@ -1,4 +1,4 @@
--- A sheet and a script have one authored stream with the planned changes.
+-- A sheet and a script have only one authored stream with the planned changes.
 use Rattle.std.proofs.Common.{◌≡◌, ℕ, List, sym, ◌∙◌}
 use Rattle.cue_sheet.specs.CueSheet.{CueSheet}
 use Rattle.toc_model.specs.Places.{layout_of}

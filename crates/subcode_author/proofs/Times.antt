@@ -1,4 +1,4 @@
--- Times in order, and one picture more.
+-- Times in order, with one more picture.
 use Rattle.std.proofs.Common.{◌≡◌, ◌⊎◌, ℕ, ◌+◌, ◌-◌, ◌<◌, ◌≤◌, List, [], ◌∷◌, ◌++◌, length, get_or, ap, sym, subst, ◌∙◌, inl, inr, arith}
 use Rattle.std.specs.Prelude.{filter_map}
 use Rattle.std.proofs.lemmas.Bool.{cases_lt}
@@ -10,7 +10,7 @@ use Rattle.pack_schedule.specs.Shown.{AreTimesInOrder}
 abbrev time_at : List (ℕ × ℕ) → ℕ → ℕ × ℕ
 time_at times k = get_or {A = ℕ × ℕ} times k (0, 0)
 
--- each picture is held from its ready time on, and the next one is ready later
+-- each picture is held from its ready time on, and the next picture is ready later
 pub record InOrder (times : List (ℕ × ℕ)) : Type 0 where
   pub held : (k : ℕ) → k < length times → (time_at times k).0 ≤ (time_at times k).1
   pub later : (k : ℕ) → k + 1 < length times → (time_at times k).1 < (time_at times (k + 1)).0
@@ -58,7 +58,7 @@ one_more times ready hold order lasts after = record {
   ];
 }
 
--- the times of a script with one line more
+-- the times of a script with one more line
 pub shows_more : (script : List Drawing) (line : Drawing)
     → shows (script ++ line ∷ []) ≡ shows script ++ filter_map shown_times (line ∷ [])
 unfolding shows

@@ -23,7 +23,7 @@ use Rattle.subcode_author.proofs.Prompt.{ArePrompt}
 use Rattle.subcode_author.proofs.Packs.{in_change}
 use Rattle.subcode_author.proofs.Messages.{has_word}
 
--- what is known of the change that is written
+-- the instruction can be written
 abbrev IsFine : Instr → Type 0
 IsFine instr = InRange instr × IsKnown instr
 
@@ -52,7 +52,7 @@ module _ (script : List Drawing) (order : AreTimesInOrder script) (ready : ArePr
       × (start_of script k ≤ n)
       × (n < start_of script k + length (planned_change script k))
 
-  -- a number lies in one change at most
+  -- a pack number is in at most one change
   one_change : (n k j : ℕ) → IsInside n k → IsInside n j → k ≡ j
   one_change n k j (k_lt, k_from, k_end) (j_lt, j_from, j_end) = elim (cases_eq k j) [
     | inl same ↦ same
@@ -124,7 +124,7 @@ module _ (script : List Drawing) (order : AreTimesInOrder script) (ready : ArePr
                 (λ i lt. (pack_exists (get_or (below count) i 0)).2)),
           )
 
-  -- where each planned change is sent
+  -- the start of each planned change
   pub survey_exists : (survey : List PlannedChange) × IsSurvey script survey
   survey_exists =
       let f : ℕ → PlannedChange = λ k. record {

@@ -48,7 +48,7 @@ unfolding lines_in
 no_line [] none = refl
 no_line (x ∷ xs) none = absurd (omega arith)
 
--- what follows the first line: what stands after its line feed, or nothing
+-- the text behind the first line: what follows its line feed, or nothing
 pub rest_is : (text : List ℕ) (end : ℕ) → end ≡ position_or_len is_feed text
     → take (length text - (end + 1)) (drop (end + 1) text) ≡ after_line text
 unfolding after_line

@@ -5,7 +5,7 @@ use Rattle.std.proofs.Math.Bool.{cond}
 use Rattle.std.specs.List.{position_or_len}
 use Rattle.std.proofs.lemmas.List.Sums.{prefix_len-le-length}
 
--- a place that is not within the list is its length
+-- a place that is not in the list is the length of the list
 place_or_len : (n size : ℕ) → n ≤ size → unwrap_or (cond (nat_lt n size) (Some n) None) size ≡ n
 place_or_len n size le = grind arith
 

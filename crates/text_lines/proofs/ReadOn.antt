@@ -1,4 +1,4 @@
--- Reading on by one line, and at the end.
+-- Reading one more line, and the end.
 use Rattle.std.proofs.Common.{◌≡◌, ℕ, ◌+◌, List, [], ◌∷◌, Ok, Err, refl, ap}
 use Rattle.std.specs.declared.result.Result.{Result}
 use Rattle.text_lines.specs.Reading.{at_line, read_on}

@@ -1,4 +1,4 @@
--- A time as it is written, and as the parts that are read of it.
+-- The text of a time, and the parts that are read from it.
 use Rattle.std.proofs.Common.{◌≡◌, ℕ, ◌+◌, ◌-◌, ◌*◌, ◌/◌, ◌%◌, ◌<◌, ◌≤◌, Bool, true, false, ◌&&◌, ◌==◌, cond, nat_le, List, [], ◌∷◌, length, take, drop, Some, None, refl, ap, ap₂, sym, ◌∙◌, arith}
 use Rattle.std.specs.Prelude.{IfSome, slice_index}
 use Rattle.std.specs.declared.option.Option.{Option}
@@ -28,12 +28,12 @@ test_twos : all_below is_two 100 ≡ true
 unfolding all_below is_two is_value number_in
 test_twos = refl
 
--- two digits are read as the number that they write
+-- two digits are read as their number
 pub two_is : (n : ℕ) → n < 100 → number_in 2 2 (digits 2 n) ≡ Some n
 unfolding is_two
 two_is n lt = value_is (number_in 2 2 (digits 2 n)) n (all_below-at is_two 100 n test_twos lt)
 
--- a time that is written is read
+-- the text of a time is read as this time
 pub time_is : (t : ℕ) → t < 450000 → parsed_time (time_text t) ≡ Some t
 unfolding parsed_time
 time_is t lt =
@@ -57,7 +57,7 @@ some_is m n e = cc
 digit_is : (c : ℕ) → is_ascii_digit c ≡ true → (48 ≤ c) × (c ≤ 57) × (digit_value c ≡ c - 48)
 digit_is c is = (grind arith, grind arith, grind arith)
 
--- two digits, each by the number
+-- two digits, from their number
 two_of : (a b n : ℕ) → number_in 2 2 (a ∷ b ∷ []) ≡ Some n → (n ≤ 99) × (a ≡ 48 + n / 10) × (b ≡ 48 + n % 10)
 unfolding number_in
 two_of a b n e =
@@ -73,7 +73,7 @@ two_of a b n e =
       omega (arith, tens.0, tens.1, ones.0, ones.1, sum),
     )
 
--- the parts of a time that is read
+-- the parts of a time that was read
 record Parts (o p q : Option ℕ) (t : ℕ) : Type 0 where
   min : ℕ
   sec : ℕ
@@ -131,7 +131,7 @@ eight (a ∷ b ∷ c ∷ d ∷ e ∷ f ∷ []) t size two five is = absurd (omeg
 eight (a ∷ b ∷ c ∷ d ∷ e ∷ f ∷ g ∷ []) t size two five is = absurd (omega arith)
 eight (a ∷ b ∷ c ∷ d ∷ e ∷ f ∷ g ∷ h ∷ i ∷ xs) t size two five is = absurd (omega arith)
 
--- what is read as a time is that time as it is written
+-- only the text of a time is read as this time
 pub time_written : (word : List ℕ) (t : ℕ) → parsed_time word ≡ Some t → (t < 450000) × (word ≡ time_text t)
 unfolding parsed_time
 time_written word t e =
@@ -151,7 +151,7 @@ no_time word (Some t) is all =
     let no : None ≡ Some t = all t from.0 from.1 in
     cc
 
--- what reads times as they are written reads them by their parts
+-- a function that reads exactly the texts of times reads their parts
 pub as_parsed : (word : List ℕ) (result : Option ℕ)
     → IfSome result (λ block. (block < 450000) × (word ≡ time_text block))
     → ((block : ℕ) → block < 450000 → word ≡ time_text block → result ≡ Some block)

@@ -27,7 +27,7 @@ without_blanks-nil : without_blanks [] ≡ []
 unfolding without_blanks
 without_blanks-nil = refl
 
--- the blanks at the front end at the first byte that is none
+-- the blanks at the front end at the first byte that is not a blank
 pub without_blanks_by_place : (s : List ℕ)
     → drop (position_or_len (λ b. not (is_blank b)) s) s ≡ without_blanks s
 without_blanks_by_place [] = grind (arith, common_steps, without_blanks-nil)
@@ -44,13 +44,13 @@ without_blanks_by_place (b ∷ s) =
           ap (λ n. drop n (b ∷ s)) place ∙ sym (without_blanks-no b s other)
     ]
 
--- the words of a line are those from its first byte on that is no blank
+-- the words of a line do not depend on the blanks at its front
 words-of_blanks : (s : List ℕ) → words_in s ≡ words_in (without_blanks s)
 unfolding without_blanks words_in
 words-of_blanks [] = refl
 words-of_blanks (b ∷ s) = grind (arith, common_steps, words-of_blanks s)
 
--- from there on a word stands first
+-- without these blanks, a line that is not empty begins with a word
 some_word : (s : List ℕ) → 0 < length (without_blanks s) → 0 < length (first_word (without_blanks s))
 unfolding without_blanks first_word
 some_word [] some = some
@@ -114,7 +114,7 @@ more_words line s word is some first =
     let here : 0 < length word = word_is_some line s word is some first in
     words-of_blanks line ∙ (ap words_in (sym is) ∙ first_of_words s word first here)
 
--- a line without its front blanks has none, and the same words
+-- removing the front blanks twice is removing them once; the words stay the same
 pub without_blanks-twice : (line : List ℕ) → without_blanks (without_blanks line) ≡ without_blanks line
 without_blanks-twice [] = ap without_blanks without_blanks-nil
 without_blanks-twice (b ∷ line) =
@@ -164,7 +164,7 @@ rest_begins line rest n is =
     let same : n + 0 ≡ n = omega arith in
     ap (λ s. get_or s 0 0) is ∙ (get_or-drop n line 0 0 ∙ ap (λ m. get_or line m 0) same)
 
--- the first word of a trimmed line stands at its front, and a blank after it, or nothing
+-- the first word of a trimmed line is at its front, followed by a blank or nothing
 first_is : (word line : List ℕ) → without_blanks line ≡ line → 0 < length word
     → get_or (words_in line) 0 [] ≡ word
     → word ≡ first_word line
@@ -209,7 +209,7 @@ reverse-front line n end is le =
     let next : end ≡ suc n = omega arith in
     rw next (ap reverse (take-suc line n 0 (omega arith)) ∙ grind (arith, common_steps))
 
--- a blank at the end of a line is passed over, and any other byte ends what is left
+-- a blank at the end of a line is dropped; any other byte ends the trimmed line
 pub trim_back : (line : List ℕ) (n end b : ℕ) → end ≡ n + 1 → end ≤ length line → b ≡ get_or line n 0
     → is_blank b ≡ true
     → without_blanks (reverse (take end line)) ≡ without_blanks (reverse line)

@@ -1,4 +1,4 @@
--- What the calls answer, from what they computed.
+-- The answers of the calls, from what they computed.
 use Rattle.std.proofs.Common.{◌≡◌, ◌≢◌, ℕ, ◌<◌, ◌≤◌, Bool, true, false, List, [], ◌∷◌, length, map, refl, sym, ap, ap₂, ◌∙◌, inl, inr, subst, arith, bit_xor, replicate}
 use Rattle.std.specs.Prelude.{slice_index, ◌==◌, if◌then◌else◌, min, max}
 use Rattle.std.specs.List.{list_all}
@@ -24,7 +24,7 @@ pub delta_is_tile : (changes old new : List ℕ) → IsTilePixels old → IsTile
 delta_is_tile changes old new old_tile new_tile h =
     subst IsTilePixels (sym h) (delta-tile old new old_tile new_tile)
 
--- the test for equal tiles, by what the code tested
+-- the test for equal tiles, from the test in the code
 pub test_of : (b : Bool) (changes old new : List ℕ) → changes ≡ delta old new
     → b ≡ list_all (λ d. d == 0) changes
     → are_equal old new ≡ b
@@ -105,7 +105,7 @@ weight_none new row column c row_lt column_lt c_lt same =
     subst (λ w. IsLeast row column (replicate 72 c) w 0) (sym same)
     (least_same row column c row_lt column_lt c_lt)
 
--- a tile that one instruction draws is drawn, whatever differs
+-- a tile that one instruction can draw is drawn
 some_weight : (pixels : List ℕ) → 1 ≤ weight pixels
 unfolding weight
 some_weight pixels = omega arith

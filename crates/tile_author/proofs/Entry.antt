@@ -1,4 +1,4 @@
--- How the table of a basis grows with a member.
+-- The table of a basis after a member is added.
 use Rattle.std.proofs.Common.{◌≡◌, ℕ, zero, suc, ◌+◌, ◌-◌, ◌*◌, ◌/◌, ◌^◌, ◌<◌, Bool, true, false, List, [], ◌∷◌, ◌++◌, length, refl, sym, ap, ap₂, ◌∙◌, subst, inl, inr, ◌⊎◌, bit_xor, arith}
 use Rattle.std.specs.Prelude.{slice_index, ◌==◌, if◌then◌else◌, Some, None}
 use Rattle.std.specs.Int.{bit_at}
@@ -51,7 +51,7 @@ partial-spans (m ∷ ms) s =
     Spans-same (m ∷ ms) _ _ (sym (partial-first m ms s (length ms)))
     (first_or_not (has_bit 0 s) m ms (partial ms (s / 2) (length ms)) rest)
 
--- each selection is the one of the number that it makes
+-- a number has only one selection
 pub selection-unique : (ms : List ℕ) (s v : ℕ) → Free ms → s < 2 ^ length ms → partial ms s (length ms) ≡ v
     → selection ms v ≡ s
 unfolding Free
@@ -110,7 +110,7 @@ length-snoc : (ms : List ℕ) (d : ℕ) → length (ms ++ d ∷ []) ≡ suc (len
 length-snoc [] d = refl
 length-snoc (m ∷ ms) d = ap suc (length-snoc ms d)
 
--- a selection that stays
+-- the selection of a number that is unchanged
 stays : (ms : List ℕ) (d v : ℕ) → Free ms → ¬ Spans ms d → Spans ms v
     → selection (ms ++ d ∷ []) v ≡ selection ms v
 unfolding partial
@@ -154,7 +154,7 @@ grows ms d v free out h =
     ∙ partial-selection ms (bit_xor d v) h)
     ∙ twice d v)
 
--- the three ways in which a number's entry grows
+-- the three cases of the entry of a number
 pub entry-stays : (ms : List ℕ) (d v : ℕ) → Free ms → is_combination ms d ≡ false → is_combination ms v ≡ true
     → entry (ms ++ d ∷ []) v ≡ Some (selection ms v)
 unfolding entry

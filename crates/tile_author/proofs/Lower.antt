@@ -1,4 +1,4 @@
--- What m instructions of one place leave is one base value, combined with combinations of m numbers.
+-- After m instructions, each pixel is one base value combined with combinations of m numbers.
 use Rattle.std.proofs.Common.{◌≡◌, ℕ, suc, ◌-◌, ◌/◌, ◌%◌, ◌<◌, ◌≤◌, Bool, true, false, List, [], ◌∷◌, length, map, get_or, reverse, All, sym, ap, ◌∙◌, subst, inl, inr, ◌⊎◌, bit_xor, arith}
 use Rattle.std.specs.Prelude.{slice_index, if◌then◌else◌}
 use Rattle.std.specs.Int.Bits.{xor_self}
@@ -23,13 +23,13 @@ at_below n p f d h = get_or-map-range_with_len f 0 n p p d h (omega arith)
 unfoldable pub Flat : List ℕ → ℕ → (ℕ → ℕ) → Type 0
 Flat gs base value = (p : ℕ) → p < 72 → Spans gs (bit_xor base (value p))
 
--- a choice of two colours, combined with the first, is a combination of both together
+-- a choice between two colours, combined with the first colour, is 0 or both colours combined
 choice_spans : (b : Bool) (c0 c1 : ℕ) → Spans (bit_xor c0 c1 ∷ []) (bit_xor c0 (if b then c1 else c0))
 unfolding Spans
 choice_spans true c0 c1 = inr (xor_self (bit_xor c0 c1))
 choice_spans false c0 c1 = inl (xor_self c0)
 
--- combining it with another value adds that one number
+-- combining a value with this choice adds one number
 choice_adds : (gs : List ℕ) (b : Bool) (c0 c1 base v : ℕ) → Spans gs (bit_xor base v)
     → Spans (bit_xor c0 c1 ∷ gs) (bit_xor (bit_xor c0 base) (bit_xor (if b then c1 else c0) v))
 unfolding Spans
@@ -38,8 +38,8 @@ choice_adds gs true c0 c1 base v h =
     (sym (ap (bit_xor (bit_xor c0 c1)) (middle c0 base c1 v) ∙ twice (bit_xor c0 c1) (bit_xor base v))) h)
 choice_adds gs false c0 c1 base v h = inl (Spans-same gs _ _ (sym (both c0 base v)) h)
 
--- What instructions leave, which are given the last one first: numbers, no more than the instructions,
--- over which the pixels are flat, or what they differ by from the old pixels is.
+-- The pixels after some instructions (the last one first) are flat over some numbers, no more than the instructions,
+-- or the differences from the old pixels are.
 pub record Reached (old : List ℕ) (rs : List Instr) : Type 0 where
   pub gs : List ℕ
   pub base : ℕ

@@ -1,4 +1,4 @@
--- Pixels whose differences have no members: no pixel is marked.
+-- If the differences of pixels have no members, no pixel is marked.
 use Rattle.std.proofs.Common.{◌≡◌, ℕ, zero, suc, ◌+◌, ◌*◌, ◌<◌, ◌≤◌, false, List, [], ◌∷◌, length, replicate, refl, sym, ap, ◌∙◌, bit_xor, arith}
 use Rattle.std.specs.Prelude.{slice_index, ◌==◌, if◌then◌else◌}
 use Rattle.std.proofs.lemmas.Nat.Bits.{bit_at-zero}

@@ -1,4 +1,4 @@
--- From a tile of one colour the least number is the weight of the new tile, or 0 where it is that tile.
+-- From a tile of one colour, the least number is the weight of the new tile, or 0 if it is the same tile.
 use Rattle.std.proofs.Common.{◌≡◌, ◌≢◌, ℕ, zero, suc, ◌<◌, List, [], length, map, replicate, All, refl, sym, ap, ap₂, ◌∙◌, subst, inl, inr, bit_xor, arith}
 use Rattle.std.specs.Prelude.{slice_index, max}
 use Rattle.std.proofs.lemmas.List.{ext_get_or, length-map, get_or-map}
@@ -48,7 +48,7 @@ same_weight : (c : ℕ) (new : List ℕ) → length new ≡ 72 → weight (delta
 unfolding weight basis
 same_weight c new size = ap (λ ds. max 1 (length (basis_from [] ds))) (same_differences c new size)
 
--- what the least number is from a tile of one colour
+-- the least number from a tile of one colour
 pub least_from_colour : (row column c : ℕ) (new : List ℕ) → row < 32 → column < 64 → c < 16 → IsTilePixels new
     → new ≢ replicate 72 c
     → IsLeast row column (replicate 72 c) new (weight new)

@@ -1,4 +1,4 @@
--- What the code reads and writes of lines.
+-- The lines that the code reads and writes.
 use Rattle.std.proofs.Common.{◌≡◌, ◌≢◌, ℕ, zero, suc, ◌+◌, ◌-◌, ◌*◌, ◌/◌, ◌^◌, ◌<◌, ◌≤◌, Bool, true, false, List, [], ◌∷◌, ◌++◌, length, take, drop, map, get_or, refl, sym, ap, ap₂, ◌∙◌, inl, inr, bit_xor, arith}
 use Rattle.std.specs.Prelude.{slice_index, ◌==◌, ◌&&◌, if◌then◌else◌, Option, Some, None, unwrap_or, bit_and, max}
 use Rattle.std.specs.Int.{bit_at}
@@ -72,7 +72,7 @@ number_of-snoc (true ∷ bs) b =
     omega arith
 number_of-snoc (false ∷ bs) b = let more = number_of-snoc bs b in omega arith
 
--- the bits of line q that have been read
+-- the bits of line q that were read
 unfoldable pub read_bits : List ℕ → ℕ → ℕ → ℕ → List Bool
 read_bits pixels j q i = take i (drop (q * 6) (member_bits pixels j))
 

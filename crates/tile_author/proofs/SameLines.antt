@@ -1,4 +1,4 @@
--- A line of pixels that is as the line before it.
+-- A line of pixels that equals the line before it.
 use Rattle.std.proofs.Common.{◌≡◌, ℕ, zero, suc, ◌+◌, ◌-◌, ◌*◌, ◌<◌, ◌≤◌, Bool, true, List, [], ◌∷◌, ◌++◌, length, take, refl, sym, ap, ap₂, ◌∙◌, bit_xor, arith}
 use Rattle.std.specs.Prelude.{slice_index, if◌then◌else◌}
 use Rattle.std.proofs.lemmas.List.{take_all, take_more, get_or-take, length-take}
@@ -11,7 +11,7 @@ use Rattle.tile_author.proofs.BasisLaws.{spanned_test, basis-spans}
 use Rattle.tile_author.proofs.Growth.{difference_at, length-differences}
 use Rattle.tile_author.proofs.Reading.{read_bits, no_bits, one_more_bit, all_bits}
 
--- the pixels of a line are those of the line before it
+-- the pixels of a line equal those of the line before it
 abbrev pub AreBefore : List ℕ → ℕ → Type 0
 AreBefore pixels line =
     (i : ℕ) → i < 6 → slice_index pixels (6 * line + i) ≡ slice_index pixels (6 * (line - 1) + i)
@@ -120,7 +120,7 @@ same_read pixels j line (suc i) size first last same i_le =
     ∙ sym (one_more_bit pixels j (line - 1) i size (omega arith) (omega arith))
     ∙ ap (λ k. number_of (read_bits pixels j (line - 1) k)) (sym next)
 
--- and its bits are those of the line before it
+-- and its bits equal those of the line before it
 pub same_bits : (pixels : List ℕ) (j line : ℕ) → length pixels ≡ 72 → 0 < line → line < 12
     → AreBefore pixels line
     → slice_index (tile_lines pixels j) (line - 1) ≡ slice_index (tile_lines pixels j) line
@@ -143,7 +143,7 @@ one_colour_first pixels (suc n) size le same =
     ∙ one_more_offered pixels n (omega (arith, size))
     ∙ ap₂ (λ ms d. if is_combination ms d then ms else ms ++ d ∷ []) before none
 
--- one colour alone has no differences
+-- pixels of one colour have no differences
 pub basis_of_one_colour : (pixels : List ℕ) → length pixels ≡ 72
     → ((i : ℕ) → i < 72 → slice_index pixels i ≡ slice_index pixels 0)
     → [] ≡ basis pixels

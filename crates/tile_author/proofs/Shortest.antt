@@ -1,4 +1,4 @@
--- The plan is in range, turns the old tile into the new one, and is a shortest list that does.
+-- The plan is in range, turns the old tile into the new one, and no shorter list does so.
 use Rattle.std.proofs.Common.{◌≡◌, ℕ, zero, suc, ◌-◌, ◌*◌, ◌^◌, ◌<◌, ◌≤◌, Bool, true, false, List, [], ◌∷◌, ◌++◌, length, take, drop, map, get_or, All, refl, sym, ◌∙◌, subst, inl, inr, bit_xor, arith}
 use Rattle.std.specs.Prelude.{slice_index, ◌==◌, ◌&&◌, if◌then◌else◌}
 use Rattle.std.proofs.lemmas.Nat.{xor_lt}
@@ -159,7 +159,7 @@ plan_combines row column old new h lt =
       | inr fails ↦ rw h (rw fails.0 refl)
     ]
 
--- it turns the old tile into the new one, and has that many members
+-- the list turns the old tile into the new one, and has the least length
 pub record IsGoodPlan (row column : ℕ) (old new : List ℕ) (instrs : List Instr) : Type 0 where
   pub turns : Turns row column old new instrs
   pub count : length instrs ≡ steps old new

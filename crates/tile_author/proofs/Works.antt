@@ -99,7 +99,7 @@ partial-at_least_one [] chosen = no_member (has_bit 0 chosen)
 partial-at_least_one (m ∷ ms) chosen = let e : max 1 (suc (length ms)) ≡ suc (length ms) = omega arith in
     ap (partial (m ∷ ms) chosen) e
 
--- the members' combination makes each pixel's difference
+-- the combination of selected members is the difference of the pixel
 pub partial-difference : (w : List ℕ) (p : ℕ) → length w ≡ 72 → p < 72
     → partial (basis w) (selection (basis w) (bit_xor (slice_index w 0) (slice_index w p))) (weight w)
     ≡ bit_xor (slice_index w 0) (slice_index w p)
@@ -123,7 +123,7 @@ so_far-more draws row column w n =
     ∙ ap reverse (map-range_with_len_more f 0 n n (omega arith))
     ∙ reverse-append (map f (below n)) (f n ∷ [])
 
--- what stands at a pixel, without the members
+-- the value at a pixel without the members
 ground_of : Bool → List ℕ → List ℕ → ℕ → ℕ
 ground_of draws old w p = if draws then slice_index w 0 else bit_xor (slice_index w 0) (slice_index old p)
 
@@ -136,7 +136,7 @@ later_choice : (b : Bool) (m : ℕ) → (if b then bit_xor 0 m else 0) ≡ (if b
 later_choice true m = xor_zero_l m
 later_choice false m = refl
 
--- an instruction by whether it is the first one
+-- an instruction, depending on whether it is the first one
 formed : Bool → Bool → ℕ → ℕ → List ℕ → ℕ → Instr
 formed draws is_first row column w j =
     let colour0 = if is_first then slice_index w 0 else 0 in
@@ -166,7 +166,7 @@ weight_positive : (w : List ℕ) → weight w ≡ suc (weight w - 1)
 unfolding weight
 weight_positive w = omega arith
 
--- what stands at a pixel after the first instructions
+-- the value at a pixel after the first instructions
 pixel_so_far : (draws : Bool) (row column : ℕ) (old w : List ℕ) (n p : ℕ) → length w ≡ 72 → p < 72
     → slice_index (tile_from old (so_far draws row column w (suc n))) p
     ≡ bit_xor (partial (basis w) (selection (basis w) (bit_xor (slice_index w 0) (slice_index w p))) (suc n))
@@ -235,7 +235,7 @@ pixel_after draws row column old w p size h =
     ∙ ap (λ k. bit_xor (partial (basis w) chosen k) (ground_of draws old w p)) (sym some)
     ∙ ap (λ k. bit_xor k (ground_of draws old w p)) (partial-difference w p size h)
 
--- the new tile drawn is the new tile
+-- drawing the new tile gives the new tile
 pub drawn_new : (row column : ℕ) (old new : List ℕ) → length old ≡ 72 → length new ≡ 72
     → tile_after old (map (planned true row column new) (below (weight new))) ≡ new
 unfolding ground_of
@@ -248,7 +248,7 @@ drawn_new row column old new old_size new_size =
     ∙ xor_comm (bit_xor first (slice_index new p)) first
     ∙ twice first (slice_index new p))
 
--- what differs, combined with the old tile, is the new tile
+-- combining the old tile with the differences gives the new tile
 pub combined_new : (row column : ℕ) (old new : List ℕ) → length old ≡ 72 → length new ≡ 72
     → tile_after old (map (planned false row column (delta old new)) (below (weight (delta old new)))) ≡ new
 unfolding ground_of

@@ -1,4 +1,4 @@
--- The catalogue number and the tracks' codes: their lengths, their parts and their copies.
+-- The catalogue number and the codes of tracks: their lengths, their parts and their copies.
 use Rattle.std.proofs.Common.{◌≡◌, ℕ, true, false, List, length, take, drop, Bool, Bor, Some, None, refl, ap, sym, ◌∙◌, inl, inr, get_or}
 use Rattle.std.specs.Prelude.{◌&&◌, ◌||◌, ◌≢◌, All, ◌==◌, Option, MatchOption, option_copied}
 use Rattle.std.specs.Array.{IsWholeChunk}

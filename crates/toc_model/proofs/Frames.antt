@@ -1,4 +1,4 @@
--- The frame of a program block, by its place in the period of codes.
+-- The frame of a program block, from its place in the period of codes.
 use Rattle.std.proofs.Common.{◌≡◌, ℕ, ◌%◌, true, false, List, Some, None, ap, sym, ◌∙◌, arith}
 use Rattle.std.specs.Prelude.{◌==◌}
 use Rattle.std.proofs.lemmas.Bool.{cond-true, cond-false}

@@ -1,4 +1,4 @@
--- The greatest time of a sheet is that of its last index line.
+-- The greatest time of a sheet is the time of its last index line.
 use Rattle.std.proofs.Common.{◌≡◌, ℕ, zero, suc, ◌+◌, ◌-◌, ◌≤◌, ◌<◌, List, [], ◌∷◌, length, get_or, arith, inl, inr}
 use Rattle.std.specs.Prelude.{map}
 use Rattle.std.proofs.lemmas.List.{get_or-map, length-map}
@@ -21,7 +21,7 @@ greatest-least (x ∷ xs) m all =
     let more : greatest xs ≤ m = greatest-least xs m (λ i lt. all (suc i) (omega arith)) in
     let here : x ≤ m = all zero (omega arith) in omega (arith, more, here)
 
--- a time of a track is at most its latest one
+-- a time of a track is at most its latest time
 pub latest_time-bound : (track : CueTrack) (i : ℕ) → i < length track.indices
     → (index_line_of track i).1 ≤ latest_time track
 latest_time-bound track i lt =
@@ -71,7 +71,7 @@ need-least sheet m all =
     (latest_time-least (track_of sheet k) m (λ i here. all k i within here))) in
     omega (arith, most)
 
--- in order, no time is above that of the last line of the last track
+-- if a sheet is in order, no time is above that of the last line of its last track
 pub need_is_last : (sheet : CueSheet) (last line time : ℕ) → IsSheet sheet → last ≡ length sheet.tracks - 1
     → line ≡ length (track_of sheet last).indices - 1
     → time ≡ (index_line_of (track_of sheet last) line).1 → time + 1 ≡ audio_need sheet

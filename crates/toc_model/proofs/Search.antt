@@ -1,4 +1,4 @@
--- The last element that passes a test, where those that pass come first.
+-- The last element that passes a test, if all elements that pass come first.
 use Rattle.std.proofs.Common.{◌≡◌, ℕ, ◌-◌, ◌≤◌, ◌<◌, true, false, Bool, List, length, get_or, Some, None, ap, ◌∙◌, arith}
 use Rattle.std.specs.Prelude.{reverse, find, slice_get}
 use Rattle.std.specs.List.{position_or_len}

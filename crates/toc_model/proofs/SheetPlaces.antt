@@ -13,7 +13,7 @@ use Rattle.toc_model.proofs.Gaps.{pregaps_to-le, postgaps_to-le}
 use Rattle.toc_model.proofs.Need.{time-below-need}
 use Rattle.toc_model.proofs.Lines.{music_line}
 
--- index lines that begin so many blocks later
+-- index lines that begin `by` blocks later
 abbrev shifted : ℕ → List (ℕ × ℕ) → List (ℕ × ℕ)
 shifted by lines = map (λ (line : ℕ × ℕ). (line.0, by + line.1)) lines
 
@@ -50,7 +50,7 @@ AreIndices-shifted by lines good fits =
           omega (arith, shifted-at by lines i before, shifted-at by lines j within, good.order i j le within);
     }
 
--- every index line lies within the program
+-- every index line is within the program
 pub line_fits : (sheet : CueSheet) (audio k j : ℕ) → audio_need sheet ≤ audio → k < length sheet.tracks
     → j < length (track_of sheet k).indices
     → blocks_before sheet k + (index_line_of (track_of sheet k) j).1 < program_blocks sheet audio

@@ -32,7 +32,7 @@ track_of_begun layout tracks block n place is point low high at =
     ∙ sym (ap (λ (ts : List TrackPlace).
     unwrap_or (find (λ (p : TrackPlace). nat_le p.begin block) (reverse ts)) no_place) is))
 
--- the track that was found among the tracks of a layout
+-- the track that was found is a track of the layout
 pub track_found : (layout : DiscLayout) (tracks items : List TrackPlace) (block n : ℕ) (place : TrackPlace)
     → layout.tracks ≡ tracks → items ≡ tracks
     → IsPartitionPoint (λ (p : TrackPlace). nat_le p.begin block ≡ true)
@@ -113,7 +113,7 @@ and_true : (a : Bool) → a ≡ (a && true)
 and_true true = refl
 and_true false = refl
 
--- the next track's music is still to come, so its pause needs only to have begun
+-- the music of the next track has not begun, so the block is in its pause if the pause has begun
 pub next_pause_begun : (layout : DiscLayout) (tracks : List TrackPlace) (block n : ℕ) (next : TrackPlace)
     (music begin pause : ℕ)
     → layout.tracks ≡ tracks

@@ -35,7 +35,7 @@ atexit.register(sweep)
 
 @contextlib.contextmanager
 def held_back() -> Iterator[None]:
-    """What is done here is not cut off by a signal, which comes right after."""
+    """Delays signals until the end of the block, so that they do not interrupt it."""
     if not hasattr(signal, "pthread_sigmask"):
         yield from noted()
         return
@@ -79,7 +79,7 @@ def new_mode() -> int:
 
 
 class WaitingFile(io.BufferedIOBase):
-    """Where an output is written to; what the system refuses names the output."""
+    """Opens the file that an output is written to; errors of the system name the output."""
 
     def __init__(self, name: str, file: Any) -> None:
         self.name, self._file = name, file
@@ -137,7 +137,7 @@ def keep_folder(folder: str) -> None:
 
 
 def link_or_move(path: str, kept: str) -> None:
-    """Gives a file a second name, or where there are none another one."""
+    """Gives a file a second name, or moves it if there are no hard links."""
     try:
         os.link(path, kept)
     except OSError as error:
@@ -147,7 +147,7 @@ def link_or_move(path: str, kept: str) -> None:
 
 
 def forget(part: str) -> None:
-    """Removes a file that waited, if it is there still."""
+    """Removes a temporary file, if it still exists."""
     with contextlib.suppress(OSError):
         os.unlink(part)
     _waiting.pop(part, None)

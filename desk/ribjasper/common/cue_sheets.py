@@ -3,18 +3,18 @@ import re
 
 from .times import spelled
 
-# The bits of CONTROL, and what a sheet calls them.
+# The bits of CONTROL, and their names in a sheet.
 FLAGS = ((2, b"DCP"), (8, b"4CH"), (1, b"PRE"))
 PRE_EMPHASIS, COPY, DATA, FOUR_CHANNELS = 1, 2, 4, 8
 # A disc of one track, on which scripts are planned and packs are pressed.
 ONE_TRACK = b'FILE "song.wav" WAVE\nTRACK 01 AUDIO\nINDEX 01 00:00:00\n'
-# The texts that a sheet has a command for, and those that it can only mention.
+# The texts for which a sheet has a command, and those that it can only mention in a remark.
 COMMANDS = {"title": b"TITLE", "performer": b"PERFORMER", "songwriter": b"SONGWRITER"}
 MENTIONED = {"composer": b"COMPOSER", "arranger": b"ARRANGER", "message": b"MESSAGE"}
 
 
 def spelled_text(text: bytes) -> bytes | None:
-    """A text as a sheet spells it, or nothing if it cannot be spelled."""
+    """A text in the spelling of a sheet, or None if it cannot be spelled."""
     if any(byte < 0x20 or byte == 0x7F for byte in text):
         return None
     if b'"' not in text:
@@ -23,7 +23,7 @@ def spelled_text(text: bytes) -> bytes | None:
 
 
 def spelled_name(name: bytes) -> bytes:
-    """The name of a file without what a sheet cannot spell."""
+    """The name of a file without characters that a sheet cannot contain."""
     return re.sub(rb'["\x00-\x1f\x7f]', b"_", name)
 
 

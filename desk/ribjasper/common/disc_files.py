@@ -7,18 +7,18 @@ from .discs import Disc, SheetDisc, Track
 from .library import SECTOR
 from .times import PAUSE, spelled
 
-# The shortest track, which burners refuse to make shorter.
+# The length of the shortest track that burners accept.
 SHORTEST_TRACK = 4 * 75
 
 
 def in_quotes(text: bytes) -> str:
-    """A string of a file of cdrdao; bytes that are not ASCII in octal."""
+    """A string in a file of cdrdao; bytes that are not ASCII are in octal."""
     spelled = text.replace(b"\\", b"\\\\").replace(b'"', b'\\"')
     return '"' + "".join(chr(byte) if 32 <= byte < 127 else f"\\{byte:03o}" for byte in spelled) + '"'
 
 
 def toc_texts(disc: Disc, number: int, code: bytes) -> list[str]:
-    """The texts of the album or of a track; of each kind that any of them has, since burners want it of all."""
+    """The texts of the album or of a track, for each kind that occurs anywhere: burners require it everywhere."""
     kinds = {kind for kind, _ in disc.texts}
     lines = [
         f"    {name.decode()} {in_quotes(disc.texts.get((kind, number), b''))}"
@@ -55,7 +55,7 @@ def toc_track(disc: SheetDisc, track: Track, name: str) -> list[str]:
 
 
 def toc_of(disc: SheetDisc, name: str) -> str:
-    """What cdrdao reads. The first pause is not in it: a burner makes it."""
+    """The table of contents for cdrdao. The first pause is not in it: a burner makes it."""
     catalogue = [f"CATALOG {in_quotes(disc.catalogue)}"] if disc.catalogue else []
     lines = ["CD_DA", *catalogue, *toc_texts(disc, 0, disc.catalogue)]
     for track in disc.tracks:
@@ -70,7 +70,7 @@ def write_texts(sheet: CueWriter, disc: Disc, number: int) -> None:
 
 
 def cue_of(disc: Disc, name: str) -> bytes:
-    """A sheet of the image: tracks of sectors with subcode, whose gaps are in the file."""
+    """A sheet of the image: tracks of sectors with subcode, with gaps in the file."""
     sheet = CueWriter()
     if disc.catalogue:
         sheet.catalogue(disc.catalogue)

@@ -17,8 +17,8 @@ ROOM_FOR_TABLE = 4 * 3 * 102
 
 @dataclass
 class Track:
-    """A track: its control bits; the absolute time at which each index begins, index 0 being its pause; its recording
-    code, or nothing; its session; and the blocks of silence before and behind it that no file has."""
+    """A track: its control bits; the absolute time at which each index begins (index 0 is its pause); its recording
+    code, or nothing; its session; and the numbers of silent blocks before and behind it that are in no file."""
 
     number: int
     control: int
@@ -53,12 +53,12 @@ class SheetDisc(Disc):
     lead_in: int
 
     def end_of(self, track: Track) -> int:
-        """Where a track ends: where the next one begins, or with the disc."""
+        """The end of a track: the beginning of the next one, or the end of the disc."""
         return min((other.begin for other in self.tracks if other.begin > track.begin), default=self.blocks)
 
     def silence(self) -> set[int]:
-        """The blocks whose sound no file has: before each track that has a pregap, of the first one behind the pause,
-        and behind each that has a postgap."""
+        """The blocks whose sound is in no file: before each track with a PREGAP (of the first track, after the pause),
+        and after each track with a POSTGAP."""
         befores = (range(max(track.begin, PAUSE), max(track.begin, PAUSE) + track.pregap) for track in self.tracks)
         ends = ((self.end_of(track), track.postgap) for track in self.tracks)
         behinds = (range(end - postgap, end) for end, postgap in ends)

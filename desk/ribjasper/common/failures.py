@@ -8,26 +8,26 @@ from typing import Iterator, NamedTuple
 Name = str | bytes | os.PathLike[str] | os.PathLike[bytes]
 # The exit statuses of the desk other than 0. Status 1 (damage was found, or files differ) is a result, not a failure.
 FOUND = 1
-# A file cannot be used: an input that is not what it should be, or an output that would take the place of another file.
+# A file cannot be used: an input has the wrong content, or an output would overwrite another file.
 REFUSED = 3
 # A picture is late.
 LATE = 4
-# A package, a program or the library is not there.
+# A package, a program or the library is missing.
 MISSING = 5
 # An output cannot be written.
 UNWRITTEN = 6
 # The memory is not enough.
 NO_MEMORY = 7
-# Something that the desk should have known of.
+# A bug of the desk.
 FAULT = 8
 # There is nothing to do.
 NOTHING = 9
-# A signal ended it: this and the signal's number.
+# A signal ended the desk: this number plus the number of the signal.
 STOPPED = 128
 
 
 def shown(name: str) -> str:
-    """A name on one line: as it is, but backslash, tab and ends of lines written with a backslash."""
+    """A name on one line: unchanged, except that a backslash, a tab and line ends are written with a backslash."""
     marks = (("\\", "\\\\"), ("\t", "\\t"), ("\n", "\\n"), ("\r", "\\r"))
     for mark, spelled in marks:
         name = name.replace(mark, spelled)
@@ -35,7 +35,7 @@ def shown(name: str) -> str:
 
 
 class Failure(Exception):
-    """Why a command cannot go on, in lines that name a file, and what the desk then ends with."""
+    """The reason why a command cannot continue, in lines that name a file, and the exit status of the desk."""
 
     status: int = REFUSED
 
@@ -54,7 +54,7 @@ class Refusal(Failure):
 
 
 class Unwritten(Refusal):
-    """An output that cannot be written, and why."""
+    """An output that cannot be written, and the reason."""
 
     status = UNWRITTEN
 
@@ -64,7 +64,7 @@ class NoMemory(Refusal):
 
 
 class Missing(Failure):
-    """Something that has to be installed or built first."""
+    """Something must be installed or built first."""
 
     status = MISSING
 
@@ -76,7 +76,7 @@ class Nothing(Failure):
 
 
 class Fault(Refusal):
-    """Something that the desk should have known of."""
+    """A bug of the desk."""
 
     status = FAULT
 
@@ -90,7 +90,7 @@ class Several(Failure):
 
 
 class Refusals:
-    """Collects what is wrong with a file, so that all of it is reported at once."""
+    """Collects all errors in a file, so that they are reported together."""
 
     def __init__(self, path: Name) -> None:
         self.path, self.causes = path, list[str]()
@@ -111,8 +111,8 @@ class Outside(NamedTuple):
     failure: type[Refusal]
 
 
-# By the names of exceptions, so that no package is loaded for the sake of its exceptions. What has no line of its own
-# has that of its nearest base.
+# Exceptions are listed by name, so that no package is loaded for them. An exception without its own entry has the entry
+# of its nearest base class.
 OUTSIDE = {
     "MemoryError": Outside("there is not enough memory for it", NoMemory),
     "RecursionError": Outside("is nested too deeply", Refusal),
@@ -133,7 +133,7 @@ def cause(error: OSError) -> str:
 
 
 def failure_of(error: BaseException, path: Name, writing: bool = False) -> Failure:
-    """What an exception means that came while a file was read or written."""
+    """The failure that an exception means, if it occurred while a file was read or written."""
     if isinstance(error, Failure):
         return error
     for base in type(error).__mro__:
@@ -154,7 +154,7 @@ def reading(path: Name) -> Iterator[None]:
     """Turns an exception while a file is read into a failure that names the file."""
     try:
         with warnings.catch_warnings():
-            # Pillow only warns of a picture that is half as large as what it refuses.
+            # For a picture of half the size that it refuses, Pillow only warns.
             warnings.filterwarnings("error", ".*decompression bomb")
             yield
     except Exception as error:

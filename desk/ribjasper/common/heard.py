@@ -10,7 +10,7 @@ Identity = tuple[object, ...]
 
 
 class Heard:
-    """The regular files that were opened to read since this was made, by what two names of a file have in common."""
+    """The identities of the regular files that were opened for reading since this object was made."""
 
     def __init__(self) -> None:
         self.files: dict[Identity, str] = {}
@@ -24,7 +24,7 @@ def _opened(event: str, arguments: tuple[Any, ...]) -> None:
     """Python calls this before it opens a file, in its own code and in packages."""
     if event != "open" or not _listening or _paused:
         return
-    # Nothing that goes wrong here may keep a file from being opened.
+    # No error here may prevent that a file is opened.
     with contextlib.suppress(Exception):
         path, _, flags = arguments
         if isinstance(path, int) or flags & os.O_ACCMODE != os.O_RDONLY or flags & os.O_CREAT:

@@ -1,4 +1,4 @@
-"""Kinds of files that commands write, and how one that is there already is known to be of a kind."""
+"""The kinds of files that commands write, and how to recognize the kind of an existing file."""
 import os
 import re
 from typing import Callable, NamedTuple
@@ -7,7 +7,7 @@ from typing import Callable, NamedTuple
 # The number of bytes at the beginning of a file that are read to recognize it.
 LOOKED_AT = 1 << 16
 PNG_MARK = b"\x89PNG\r\n\x1a\n"
-# What the pages of the desk have near their beginning.
+# Text near the beginning of the pages of the desk.
 PAGE_MARK = b'<meta name="generator" content="ribjasper-desk">'
 
 
@@ -26,7 +26,7 @@ class Kind(NamedTuple):
         return self.looks is not None or bool(self.endings)
 
     def has(self, path: str) -> bool:
-        """Whether a file is of this kind, or holds nothing."""
+        """Whether a file is of this kind, or empty."""
         size = os.path.getsize(path)
         if not size:
             return True
@@ -39,7 +39,7 @@ class Kind(NamedTuple):
 
 
 def begins(*marks: bytes) -> Callable[[bytes, int], bool]:
-    """Files that begin with one of these."""
+    """A test for files that begin with one of these."""
     return lambda head, _: head.startswith(marks)
 
 
@@ -62,7 +62,7 @@ def _is_film(head: bytes, _: int) -> bool:
 
 
 def _is_text_packs(head: bytes, size: int) -> bool:
-    """Packs of 18 bytes whose first byte is that of a kind of text, with four bytes in front or without."""
+    """Packs of 18 bytes whose first byte is a kind of text, with or without four bytes in front."""
     at = size % 18
     return at in (0, 1, 4, 5) and size >= 18 and 0x80 <= head[at & 4] <= 0x8F
 
@@ -83,7 +83,7 @@ FILM = Kind("a film", _is_film, is_recorded=True)
 TABLE = Kind("a table of a report", begins(b"file\tstatus\t"))
 ROWS = Kind("the rows of a report", begins(b'{"file": '))
 PAGE = Kind("a page of the desk", lambda head, _: PAGE_MARK in head[:1000])
-# What the studio keeps of a song that is edited begins so.
+# The beginning of the studio's journal of a song.
 JOURNAL = Kind("a journal of the studio", begins(b'{"ribjasper-studio": '))
 LYRICS = Kind("lyrics in LRC", is_recorded=True)
 LYRICS_MORE = Kind("what belongs to lyrics in LRC", begins(b"# Belongs to the LRC file"), is_recorded=True)
@@ -93,7 +93,7 @@ ALBUM = Kind("a list of songs", is_recorded=True)
 SOUND = Kind("a sound of this song", is_recorded=True)
 CCD = Kind("a sheet of CloneCD", begins(b"[CloneCD]"), is_recorded=True)
 TABLE_OF_BLOCKS = Kind("a table of blocks", begins(b"block\ttime\tblocks\n", b"pack\ttime\tpacks\n"))
-# A map of a rescue by ddrescue itself begins otherwise.
+# A map by ddrescue itself begins differently.
 DDRESCUE = Kind("a map of a mended stream", begins(b"# Mapfile of the mended stream", b"# Mapfile of the mended packs"))
 SBI = Kind("a list of changed frames", begins(b"SBI\0"), is_recorded=True)
 LSD = Kind("a list of changed frames", lambda head, size: size % 15 == 0, (".lsd",), is_recorded=True)

@@ -1,5 +1,5 @@
 """Texts of a disc that are not ASCII. The character code of the texts is 00, which players read as Latin-1 (ISO
-8859-1), and the bytes of a sheet go onto the disc as they are."""
+8859-1), and the bytes of a sheet are written onto the disc unchanged."""
 import re
 import unicodedata
 from pathlib import Path
@@ -8,7 +8,7 @@ from typing import Iterator
 from .failures import Refusal
 from .output import tell
 
-# The lines of a sheet whose texts go onto the disc.
+# The lines of a sheet whose texts are written onto the disc.
 TEXT_LINE = re.compile(rb"[ \t]*(TITLE|PERFORMER|SONGWRITER)[ \t]", re.IGNORECASE)
 
 

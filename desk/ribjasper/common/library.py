@@ -10,7 +10,7 @@ from typing import Any, Iterator, NamedTuple
 
 from .failures import Missing
 
-# The package; the checkout; and the folder of libraries where the desk was installed as share/ribjasper-desk.
+# The package; the checkout; and the folder of libraries if the desk is installed as share/ribjasper-desk.
 PACKAGE = Path(__file__).resolve().parent.parent
 TOP = PACKAGE.parent.parent
 INSTALLED = TOP.parent / "lib"
@@ -22,22 +22,22 @@ NAME = NAMES.get(sys.platform, "libribjasper.so.0")
 BLOCK, PACK, TEXT_PACK, SECTOR = 96, 24, 18, 2448
 WIDTH, HEIGHT, PICTURE, COLOURS = 300, 216, 194_400, 16
 BLOCKS_A_SECOND, PACKS_A_BLOCK = 75, 4
-# The audio of a sector in bytes; the slots, four in a block, over which a word is spread; and how many blocks behind
-# its own it reaches.
+# The bytes of audio in a sector; the slots, four per block, over which a word is spread; and the number of blocks after
+# its own into which it extends.
 AUDIO, SLOTS, SPREAD = 2352, 8, 2
 # The first symbol of a pack of graphics.
 GRAPHICS = 9
 MOST_BLOCKS, LONGEST_LEAD_IN = 1_000_000, 450_000
 RAW, PACKS = 0, 1
-# The most readings that are mended at once; in place of a reading's number that readings agree, and that none gives a
-# word.
+# The greatest number of readings in one call; and instead of the number of a reading: readings agree, and no reading
+# has a codeword.
 READINGS, AGREED, NO_READING = 254, 254, 255
 DONE, DAMAGED, TORN, NO_ROOM, NO_MEMORY = 0, 1, 3, 6, 7
 NO_TIME = 0xFFFF_FFFF
-# The pixels of a tile, the most index lines that a sheet has, and the kinds of its texts by their numbers.
+# The pixels of a tile, the greatest number of index lines in a sheet, and the kinds of its texts by their numbers.
 TILE, MOST_INDEX_LINES = 72, 9_900
 SHEET_TEXTS = ("title", "performer", "songwriter")
-# What the texts of most discs need.
+# The buffer size that most discs need for their texts.
 TEXT_ROOM = 65_536
 Q_PROGRAM, Q_TRACK, Q_FIRST, Q_LAST, Q_LEAD_OUT, Q_CATALOGUE, Q_ISRC, Q_OTHER = range(8)
 Q_NONE, Q_BAD_FIELD, Q_BAD_CHECK = 253, 254, 255
@@ -67,7 +67,7 @@ class Converted(Structure):
 
 
 class SurveyRow(Structure):
-    """What is found of a block."""
+    """The survey of a block."""
 
     _fields_ = [
         ("absolute", c_uint32),
@@ -97,7 +97,7 @@ class ListedTexts(Structure):
 
 
 class MendedReadings(Structure):
-    """What the library counts when it mends readings."""
+    """The counts of the library for mended readings."""
 
     _fields_ = [
         ("bytes", c_uint64),
@@ -111,7 +111,7 @@ class MendedReadings(Structure):
 
 
 class MendReported(Structure):
-    """The counts of mended readings, and how many error-free words of each did not come out."""
+    """The counts of mended readings, and the numbers of error-free words of each reading that were lost."""
 
     _fields_ = [("counts", MendedReadings), ("lost", c_uint32 * READINGS)]
 
@@ -142,8 +142,8 @@ class Planned(Structure):
 
 
 class Change(Structure):
-    """What of the screen may have changed: pixels from `left` to `right` of the rows from `top` to `bottom`, and
-    whether colours or levels may have."""
+    """The change of the screen: pixels from `left` to `right` of the rows from `top` to `bottom`, and whether colours
+    or levels may have changed."""
 
     _fields_ = [
         ("left", c_uint32),
@@ -195,7 +195,7 @@ class Sheet(NamedTuple):
     why: int
 
 
-# The parameters and the result of each call. A `bytes` may be passed where bytes are read; it is not copied.
+# The parameters and the result of each call. A `bytes` object may be passed for bytes that are read; it is not copied.
 _BYTES, _PLAYER = c_void_p, POINTER(PlayerHandle)
 CALLS = {
     "ribjasper_version": ([], c_uint32),
@@ -245,9 +245,8 @@ CALLS = {
 
 
 def candidates() -> Iterator[str]:
-    """Where the shared library may be: as RIBJASPER_LIBRARY names it; in the checkout whose desk this is; in the
-    package, where a wheel has it; below the folder that the desk was installed to; and where the system has its
-    libraries."""
+    """The possible paths of the shared library: in RIBJASPER_LIBRARY; in the checkout of this desk; in the package, as
+    in a wheel; below the folder into which the desk was installed; and in the folders of the system."""
     if named := os.environ.get("RIBJASPER_LIBRARY"):
         yield named
         return
@@ -257,7 +256,7 @@ def candidates() -> Iterator[str]:
 
 
 def checkout(*names: str) -> Path | None:
-    """A file of the checkout whose desk this is, if it is one of a checkout."""
+    """A file of the checkout of this desk, if it is in one."""
     return TOP.joinpath(*names) if (TOP / "crates.txt").exists() else None
 
 
@@ -304,8 +303,7 @@ def packs_of_blocks(stream: bytes, form: int, lead_in: int) -> tuple[bytes, Conv
 
 
 def texts(stream: bytes, lead_in: int) -> str:
-    """The lines of the texts of a raw lead-in, as the program's `text` writes them, or nothing where they are
-    refused."""
+    """The lines of the texts in a raw lead-in, as the program's `text` writes them, or nothing if they are refused."""
     result, room, status = ListedTexts(), TEXT_ROOM, NO_ROOM
     while status == NO_ROOM:
         lines = ctypes.create_string_buffer(room)
@@ -317,7 +315,7 @@ def texts(stream: bytes, lead_in: int) -> str:
 
 
 def q_frame(block: bytes) -> QFrame | None:
-    """The Q frame of a raw block, or none where its check or a field is bad."""
+    """The Q frame of a raw block, or None if its check or a field is bad."""
     planar, frame, bit = ctypes.create_string_buffer(BLOCK), QFrame(), c_uint8()
     call("ribjasper_block_to_planar")(block, planar)
     return frame if call("ribjasper_q_decode")(planar.raw[12:24], frame, bit) == DONE else None
@@ -336,7 +334,7 @@ def sheet(text: bytes) -> Sheet:
 
 
 def sheet_text(text: bytes, kind: int, place: int) -> bytes:
-    """A text of a cue sheet that is not refused: of the album at place 0, of the k-th track at place k."""
+    """A text of a cue sheet that was accepted: of the album at place 0, of the k-th track at place k."""
     room, length, status = TEXT_ROOM, c_uint32(), NO_ROOM
     while status == NO_ROOM:
         out = ctypes.create_string_buffer(room)
@@ -351,6 +349,6 @@ def sheet_text(text: bytes, kind: int, place: int) -> bytes:
 
 @functools.lru_cache(maxsize=None)
 def tile_weight(numbers: frozenset[int]) -> int:
-    """How many packs draw a tile that has the colours with these numbers, and no others."""
+    """The number of packs that draw a tile with exactly these colours."""
     pixels = (*numbers, *itertools.repeat(min(numbers), TILE - len(numbers)))
     return int(call("ribjasper_tile_weight")((c_uint8 * TILE)(*pixels)))

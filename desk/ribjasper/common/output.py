@@ -1,5 +1,5 @@
-"""What the desk writes. There is one way for all commands: `Outputs` takes the files that a call reads and those that
-it is to write, refuses what would cost the user a file, and lets all outputs appear together or none of them."""
+"""How the desk writes, the same for all commands: `Outputs` gets the files that a call reads and those that it writes,
+refuses everything that would destroy a file of the user, and lets either all outputs appear or none."""
 import argparse
 import contextlib
 import io
@@ -27,16 +27,16 @@ from .failures import (
 from .kinds import Kind
 from .targets import DASH as DASH, Target, against_standard_output, inputs_of, standard_output
 
-# How it is called in a line.
+# The name of standard output in messages.
 STANDARD_OUTPUT = "standard output"
-# Programs that write a file themselves go by its ending, if it is one.
+# Programs that write a file themselves go by its ending. A longer part behind a dot is no ending.
 LONGEST_ENDING = 16
-# Outputs that are no files wait in memory up to this number of bytes, and in a file without a name if they are larger.
+# Outputs that are no files are kept in memory up to this number of bytes, and larger ones in a file without a name.
 KEPT_IN_MEMORY = 1 << 26
 COPIED_AT_ONCE = 1 << 20
-# What is read as a whole is never longer: a device would have no end.
+# A file that is read as a whole is never longer: a device could be endless.
 MOST_READ = 1 << 28
-# What pip calls packages whose modules have another name.
+# The names in pip of packages whose modules have other names.
 PIP_NAMES = {"PIL": "Pillow"}
 ALL_MODES = stat.S_IRWXU | stat.S_IRWXG | stat.S_IRWXO
 
@@ -51,7 +51,7 @@ def package(module: str, debian: str) -> Any:
 
 
 _is_quiet = False
-# The progress bar that is on the terminal, if there is one: it is cleared before anything is printed.
+# The progress bar on the terminal, if there is one: it is cleared before anything is printed.
 _bar: Any = None
 
 
@@ -65,7 +65,7 @@ def shown_bar() -> Any:
 
 
 def set_quiet(quiet: bool) -> None:
-    """Whether notes and progress are left out, as `-q` asks for."""
+    """Sets whether notes and progress bars are left out, as requested by `-q`."""
     global _is_quiet
     _is_quiet = quiet
 
@@ -75,13 +75,13 @@ def is_quiet() -> bool:
 
 
 def tell(message: str) -> None:
-    """A note on standard error, which `-q` leaves out."""
+    """Prints a note on standard error, except with `-q`."""
     if not _is_quiet:
         complain(message)
 
 
 def complain(message: str) -> None:
-    """An error message on standard error."""
+    """Prints an error message on standard error."""
     if _bar is not None:
         _bar.clear()
     if sys.stderr is not None:
@@ -90,7 +90,7 @@ def complain(message: str) -> None:
 
 
 def write_text(text: str, to: TextIO | None = None) -> None:
-    """A text on standard output, or on what takes its place."""
+    """Writes a text to standard output, or to its replacement."""
     if _bar is not None:
         _bar.clear()
     with writing(STANDARD_OUTPUT):
@@ -98,12 +98,13 @@ def write_text(text: str, to: TextIO | None = None) -> None:
 
 
 def write_row(cells: Sequence[object], to: TextIO | None = None) -> None:
-    """A line of a table, its cells between tabs."""
+    """Prints a line of a table, with tabs between the cells."""
     write_text("\t".join(shown(str(cell)) for cell in cells) + "\n", to)
 
 
 class Table:
-    """A table that a command prints: a line of names, then cells between tabs; or with JSON an object for each row."""
+    """A table that a command prints: a line of names, and then cells between tabs; or in JSON an object for each
+    row."""
 
     def __init__(self, names: Sequence[str], as_json: bool = False, to: TextIO | None = None) -> None:
         self.names, self.as_json, self.to = names, as_json, to
@@ -111,7 +112,7 @@ class Table:
             write_row(names, to)
 
     def row(self, cells: Sequence[object]) -> None:
-        """A row; a dash is `null` in JSON, and numbers stay numbers."""
+        """Prints a row; a dash is `null` in JSON, and numbers remain numbers."""
         if self.as_json:
             values = (cell if isinstance(cell, (int, float)) else str(cell) for cell in cells)
             named = {name: None if value == "-" else value for name, value in zip(self.names, values)}
@@ -125,7 +126,7 @@ def add_json(parser: argparse.ArgumentParser) -> None:
 
 
 def flush() -> None:
-    """Brings what was printed to where standard output goes."""
+    """Flushes printed text to standard output."""
     with writing(STANDARD_OUTPUT):
         sys.stdout.flush()
 
@@ -151,7 +152,7 @@ def check_unchanged(path: Name, before: os.stat_result, after: os.stat_result) -
 
 
 class Output:
-    """An output of a call, which waits until all of them are written."""
+    """An output of a call; it appears when all outputs are complete."""
 
     def __init__(self, name: Name, kind: Kind, force: bool) -> None:
         self.target, self.kind, self.force = Target(name), kind, force
@@ -169,7 +170,7 @@ class Output:
             raise Refusal(self.name, why)
 
     def open(self) -> WaitingFile:
-        """Where it is written to."""
+        """Opens the file to which it is written."""
         if self.part is None:
             if self.target.is_stream:
                 self.part = WaitingFile(self.name, tempfile.SpooledTemporaryFile(KEPT_IN_MEMORY))
@@ -191,7 +192,7 @@ class Output:
         return number
 
     def finish(self) -> None:
-        """Brings a file to the disk whole."""
+        """Writes the file completely to the disk."""
         if self.part is not None and not self.target.is_stream:
             self.part.close()
         if self.waits is not None:
@@ -199,7 +200,7 @@ class Output:
                 os.fsync(file.fileno())
 
     def send(self) -> None:
-        """Writes what waits to a stream."""
+        """Writes the waiting bytes to a stream."""
         with writing(self.name):
             if self.part is not None:
                 self.part.seek(0)
@@ -210,8 +211,8 @@ class Output:
                     _copy(file, self.target)
 
     def put(self, placed: Sequence["Output"], is_alone: bool) -> None:
-        """Gives a file its name; what had it is kept until all files of the call have theirs."""
-        # What came there while the command was at work is judged as what was there before.
+        """Renames a file to its name; an old file of this name is kept until all files of the call have their names."""
+        # A file that appeared there during the call is judged like one that was there before.
         self.target = Target(self.target.name)
         self.check()
         if self.target.is_stream or self.target.identity() in [one.target.identity() for one in placed]:
@@ -242,7 +243,7 @@ class Output:
         link_or_move(self.target.path, self.kept)
 
     def take_back(self) -> None:
-        """Puts back what was there before."""
+        """Restores the old file."""
         with contextlib.suppress(OSError):
             if self.kept is not None and os.path.lexists(self.kept):
                 os.replace(self.kept, self.target.path)
@@ -250,7 +251,7 @@ class Output:
                 os.unlink(self.target.path)
 
     def drop(self) -> None:
-        """Removes what waits or was kept."""
+        """Removes temporary files and kept old files."""
         if self.part is not None:
             with contextlib.suppress(Failure, OSError):
                 self.part.close()
@@ -317,7 +318,7 @@ class Outputs:
             raise _is_read(output, read)
 
     def _check_alone(self, output: Output, inputs: dict[tuple[object, ...], str]) -> None:
-        """Refuses an output that is an input, another output, or what standard output is written to."""
+        """Refuses an output that is an input, another output, or the file to which standard output is redirected."""
         target = output.target
         if target.found is not None and stat.S_ISCHR(target.found.st_mode):
             return
@@ -332,7 +333,7 @@ class Outputs:
 
     @property
     def printed(self) -> TextIO:
-        """Where the call prints: standard output, or standard error if an output takes that."""
+        """The stream for printed text: standard output, or standard error if an output uses that."""
         return sys.stderr if DASH in self.all else sys.stdout
 
     def table(self, names: Sequence[str], as_json: bool = False) -> Table:
@@ -340,11 +341,11 @@ class Outputs:
         return Table(names, as_json, self.printed)
 
     def open(self, name: Name) -> WaitingFile:
-        """Where an output is written to, bytes."""
+        """Opens an output for writing bytes."""
         return self._output(name).open()
 
     def write(self, name: Name, content: bytes) -> None:
-        """Writes all of an output."""
+        """Writes the whole content of an output."""
         self.open(name).write(content)
 
     def write_png(self, name: Name, image: Any) -> None:
@@ -356,7 +357,7 @@ class Outputs:
         return self._output(name).path(ending)
 
     def drop(self) -> None:
-        """Forgets what was written: nothing appears."""
+        """Discards all outputs: nothing appears."""
         with held_back():
             for output in self.all.values():
                 output.drop()
@@ -392,8 +393,8 @@ class Outputs:
                     os.rmdir(folder)
 
     def _appear(self) -> None:
-        """Lets all outputs appear that were opened. What a stream was sent cannot be taken back, so streams come first:
-        if one of them fails no file appears."""
+        """Lets all opened outputs appear. Bytes that were sent to a stream cannot be taken back, so streams come first:
+        if one of them fails, no file appears."""
         flush()
         opened = [output for output in self.all.values() if output.part is not None or output.waits is not None]
         for output in opened:
@@ -419,13 +420,13 @@ class Outputs:
 
 
 def _is_read(output: Output, read: str) -> Refusal:
-    """Why an output that is read too is refused."""
+    """Why an output is refused that is also an input."""
     same = "" if read == output.target.name else f" as {shown(read)}"
     return Refusal(output.name, f"is an input{same} and would be overwritten")
 
 
 def stem_of(name: Name) -> str:
-    """The name from which the names of several files are made, as a call has it."""
+    """The name from which the names of several files are made, from the arguments."""
     stem = os.fsdecode(name)
     if stem == DASH:
         raise Refusal(DASH, f"means standard output, which can hold only one file; ./{DASH} is a name")
@@ -435,18 +436,18 @@ def stem_of(name: Name) -> str:
 
 
 def add_force(parser: argparse.ArgumentParser) -> None:
-    """The word that lets outputs replace any file."""
+    """Adds the option that lets outputs overwrite any file."""
     parser.add_argument("--force", action="store_true", help="overwrite an existing output of any kind")
 
 
 def png(image: Any) -> bytes:
-    """The file of a picture of Pillow."""
+    """A Pillow picture as a PNG file."""
     content = io.BytesIO()
     image.save(content, "PNG", optimize=True)
     return content.getvalue()
 
 
 def write_file(path: Name, content: bytes, kind: Kind, force: bool = False) -> None:
-    """Writes one file of a call that has others too, as those of a report."""
+    """Writes one file of a call with other outputs, for example a report."""
     with Outputs([], [(path, kind)], force) as outputs:
         outputs.write(path, content)

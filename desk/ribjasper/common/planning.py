@@ -6,24 +6,24 @@ from typing import NamedTuple
 from .library import LONGEST_LEAD_IN, NO_MEMORY, PlanRow, Planned, call
 from .times import spelled
 
-# As many pictures as a script may have.
+# The greatest number of pictures in a script.
 MOST_PICTURES = 20_000
 PLANNED, LATE, NOT_PLANNED = 0, 4, 3
-# A row of the plan as it lies in memory: six numbers, whether it is late, and three bytes.
+# The memory layout of a row of the plan: six numbers, whether it is late, and three bytes.
 ROW = struct.Struct("=6I?3x")
 
 
 class Reason(enum.IntEnum):
-    """A reason by its number in the header."""
+    """A reason, by its number in the header."""
 
     @property
     def word(self) -> str:
-        """As the program spells it."""
+        """The name of the reason in the program's messages."""
         return self.name.lower().replace("_", "-")
 
 
 class Why(Reason):
-    """Why there is no plan."""
+    """The reason why there is no plan."""
 
     TEXT_TOO_LONG = 1
     SHEET_REFUSED = 2
@@ -71,13 +71,13 @@ class PlannedPicture(NamedTuple):
 
 
 class Plan(NamedTuple):
-    """What each picture needs, and the blocks of the program."""
+    """The needs of the pictures, and the number of program blocks."""
 
     rows: list[PlannedPicture]
     blocks: int
 
     def late(self) -> list[int]:
-        """The numbers of the pictures that are late."""
+        """The numbers of the late pictures."""
         return [number for number, row in enumerate(self.rows) if row.is_late]
 
 
@@ -129,7 +129,7 @@ def plan(sheet: bytes, script: bytes, audio: int, lead_in: int = LONGEST_LEAD_IN
 
 # The maximum number of refused lines of a text that are reported.
 MOST_CAUSES = 20
-# What later lines of a sheet depend on: if one of these is refused, what follows cannot be judged.
+# Later lines of a sheet depend on these: if one of them is refused, the later ones cannot be judged.
 NEEDED_LATER = (b"FILE", b"TRACK", b"INDEX")
 
 
@@ -163,7 +163,7 @@ def without_line(text: bytes, number: int) -> bytes | None:
 
 
 def least_lead_in(sheet: bytes, audio: int) -> int:
-    """How many blocks of lead-in a sheet needs for its table of contents and its texts."""
+    """The number of lead-in blocks that a sheet needs for its table of contents and its texts."""
     try:
         plan(sheet, b"", audio, 1)
     except NoPlan as none:

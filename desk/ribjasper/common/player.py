@@ -17,7 +17,7 @@ if TYPE_CHECKING:
 # A seek feeds at most the blocks from one mark to the next: ten seconds, or a hundredth of a long stream. MARK is the
 # size of a mark in bytes: a place and the state of a player.
 LEAST_STEP, MOST_MARKS, MARK = 750, 100, 8 + 8 * 8135
-# The library's formats of pixels: three bytes a pixel, and four with the opacity.
+# The library's formats of pixels: three bytes per pixel, and four with the opacity.
 RGB, RGBA_LEVELS = 1, 4
 
 
@@ -55,18 +55,17 @@ class Player:
             self.close()
 
     def begin(self, form: int, lead_in: int) -> None:
-        """Forgets all that was drawn; blocks that are fed from now on have this form (RAW or PACKS of the library)."""
+        """Clears the screen; blocks that are fed from now on have this form (RAW or PACKS of the library)."""
         call("ribjasper_player_begin")(self._handle, form, lead_in)
 
     def feed(self, blocks: bytes) -> Change:
-        """Feeds whole blocks of 96 bytes; what of the screen may have changed."""
+        """Feeds whole blocks of 96 bytes; returns the change of the screen."""
         change = Change()
         call("ribjasper_player_feed_all")(self._handle, blocks, len(blocks) // BLOCK, change)
         return change
 
     def draw(self, packs: bytes) -> Change:
-        """Draws packs of 24 bytes, as those of a .cdg file, and ignores their parity; what of the screen may have
-        changed."""
+        """Draws packs of 24 bytes, as in a .cdg file, and ignores their parity; returns the change of the screen."""
         change = Change()
         call("ribjasper_player_draw_all")(self._handle, packs, len(packs) // PACK, change)
         return change
@@ -83,7 +82,7 @@ class Player:
         every = max(LEAST_STEP * (PACKS_A_BLOCK if self._is_packs else 1), -(-count // MOST_MARKS))
         marks = max(1, count // every)
         if self._marks is None:
-            # Memory of zeros, aligned as numbers of eight bytes are.
+            # Zeros, aligned like numbers of eight bytes.
             self._marks = (ctypes.c_uint64 * (MARK // 8 * marks))()
         place = self._stream, count, min(to, count), self._marks, marks, every
         if self._is_packs:
@@ -94,7 +93,7 @@ class Player:
             raise ValueError(f"ribjasper_player_seek answers {status}")
 
     def take(self, block: bytes) -> list[Pack]:
-        """Feeds a block, and returns the packs that came with it."""
+        """Feeds a block, and returns the packs that end with it."""
         packs = (Pack * PACKS_A_BLOCK)()
         count = call("ribjasper_player_take")(self._handle, block, packs)
         return list(packs[: max(0, count)])

@@ -1,4 +1,4 @@
-"""The program `ribjasper`, for what the library has no call for: to author a stream."""
+"""The program `ribjasper`, for the one task that the library does not have: authoring a stream."""
 import functools
 import os
 import shutil
@@ -13,7 +13,7 @@ from .library import PACKAGE, checkout
 from .times import spelled
 
 NAME = "ribjasper.exe" if sys.platform == "win32" else "ribjasper"
-# What make built, or what the gate left.
+# The program that `make` built, or else the one of the gate.
 BUILT = (checkout("bin", NAME), checkout("crates", "ribjasper", "out", NAME))
 
 

@@ -1,4 +1,4 @@
-"""A progress bar on a terminal, for what takes longer than two seconds; none without tqdm, with `-q` or elsewhere."""
+"""A progress bar on a terminal, for tasks of more than two seconds; none without tqdm, with `-q` or elsewhere."""
 import contextlib
 import sys
 import threading
@@ -15,13 +15,13 @@ _is_off = False
 
 
 def turn_off() -> None:
-    """Shows no bar in this process, as in those that look at files for another one."""
+    """Turns progress bars off in this process, for example in workers that read files for another process."""
     global _is_off
     _is_off = True
 
 
 def bar(total: int | None, unit: str, is_scaled: bool = False) -> Any:
-    """A bar of tqdm, or none where none is to be shown; there is one at a time, and only the main thread has one."""
+    """A progress bar of tqdm, or None if none is to be shown; there is one at a time, only in the main thread."""
     if _is_off or output.is_quiet() or output.shown_bar() or threading.current_thread() is not threading.main_thread():
         return None
     if sys.stderr is None or not sys.stderr.isatty():
@@ -35,7 +35,7 @@ def bar(total: int | None, unit: str, is_scaled: bool = False) -> Any:
 
 
 def progress(items: Iterable[Item], total: int | None, unit: str) -> Iterator[Item]:
-    """Items one by one, and how many of them are done."""
+    """Iterates over items, and shows how many are done."""
     with counted(total, f" {unit}") as advance:
         for item in items:
             yield item
@@ -44,7 +44,7 @@ def progress(items: Iterable[Item], total: int | None, unit: str) -> Iterator[It
 
 @contextlib.contextmanager
 def counted(total: int | None, unit: str, is_scaled: bool = False) -> Iterator[Callable[[int], object]]:
-    """What is called with how much more is done."""
+    """A function that adds to the progress."""
     shown = bar(total, unit, is_scaled)
     if shown is None:
         yield lambda _: None

@@ -13,10 +13,10 @@ from urllib.parse import parse_qsl, urlsplit
 from .failures import Failure, failure_of
 
 HOST = "127.0.0.1"
-# The most bytes of a request, and how many of a file are sent at a time.
+# The greatest size of a request, and the size of the pieces in which a file is sent.
 MOST_SENT, AT_ONCE = 1 << 22, 1 << 16
 RANGE = re.compile(r"bytes=(\d*)-(\d*)")
-# What a page of this server may load: nothing from elsewhere. Pages do not send their addresses to others.
+# The policy for pages of this server: they load nothing from elsewhere, and do not send their addresses to others.
 HEADERS = {
     "Cache-Control": "no-store",
     "Content-Security-Policy": "default-src 'self'; img-src 'self' data:; script-src 'self' 'wasm-unsafe-eval'; base-uri 'none'; "
@@ -29,7 +29,7 @@ HEADERS = {
 
 
 class Answer(NamedTuple):
-    """An answer: bytes, or a file from a byte on; its media type; and the status."""
+    """An answer: bytes, or a file from a place on; its media type; and the status."""
 
     content: bytes | Path
     kind: str = "application/json"
@@ -39,7 +39,7 @@ class Answer(NamedTuple):
 
 
 class Asked(NamedTuple):
-    """A request: its path behind the token, its query, and for a change the table that came with it."""
+    """A request: its path after the token, its query, and for a change its table."""
 
     path: str
     query: dict[str, str]
@@ -75,7 +75,7 @@ class Server(http.server.ThreadingHTTPServer):
         threading.Thread(target=self.shutdown, daemon=True).start()
 
     def handle_error(self, request: object, client_address: object) -> None:
-        """A browser that goes away is no fault."""
+        """Ignores a browser that disconnects."""
 
 
 class Handler(http.server.BaseHTTPRequestHandler):
@@ -91,7 +91,7 @@ class Handler(http.server.BaseHTTPRequestHandler):
 
     def do_POST(self) -> None:
         if why := self.against():
-            # What was sent is not read, so the connection cannot be used again.
+            # The body of the request was not read, so the connection cannot be used again.
             self.close_connection = True
             self.send(why)
             return
@@ -103,7 +103,7 @@ class Handler(http.server.BaseHTTPRequestHandler):
             self.serve(table)
 
     def table(self) -> dict[str, Any] | Answer:
-        """The table that a request brings, or why it is refused."""
+        """The table in a request, or the reason why it is refused."""
         length = self.headers.get("Content-Length", "")
         if not (length.isascii() and length.isdigit()) or int(length) > MOST_SENT:
             return as_json({"error": "a request must have a Content-Length of at most 4 MB"}, 413)
@@ -158,7 +158,7 @@ class Handler(http.server.BaseHTTPRequestHandler):
         self.end_headers()
 
     def send_file(self, answer: Answer, path: Path) -> None:
-        """A file, or the part of it that is asked for."""
+        """Sends a file, or the requested part of it."""
         with open(path, "rb") as file:
             size = file.seek(0, 2) - answer.first if answer.size is None else answer.size
             wanted = RANGE.fullmatch(self.headers.get("Range", ""))
@@ -178,7 +178,7 @@ class Handler(http.server.BaseHTTPRequestHandler):
 
 
 def part_of(first: str, last: str, size: int) -> tuple[int, int]:
-    """The first and the last byte of a part that is asked for."""
+    """The first and the last byte of a requested part."""
     if not first:
         return (max(0, size - int(last)), size - 1) if last else (0, size - 1)
     return int(first), min(size - 1, int(last) if last else size - 1)

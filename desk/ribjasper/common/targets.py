@@ -1,4 +1,4 @@
-"""What the name of an output means, and whether that may be written."""
+"""The meaning of the name of an output, and whether it may be written."""
 import contextlib
 import os
 import stat
@@ -15,7 +15,7 @@ WRITABLE = stat.S_IWUSR | stat.S_IWGRP | stat.S_IWOTH
 
 
 class Target:
-    """What the name of an output means."""
+    """The meaning of the name of an output."""
 
     def __init__(self, name: Name) -> None:
         self.name = os.fsdecode(name)
@@ -24,7 +24,7 @@ class Target:
             raise Refusal("''", "is not the name of a file")
         with reading(self.name):
             self.found = None if self.is_dash else _found(self.name)
-        # Where the links lead that are in the name: they stay, and what they name is replaced.
+        # The target of the links in the name: the links remain, and the file that they name is overwritten.
         self.path = os.path.realpath(self.name)
         self.folder = os.path.dirname(self.path)
 
@@ -34,18 +34,18 @@ class Target:
         return self.is_dash or (self.found is not None and not stat.S_ISREG(self.found.st_mode))
 
     def identity(self) -> tuple[object, ...]:
-        """What two names of one file have in common, also of one that is still to come."""
+        """The identity of a file, the same for all its names, also if it does not exist yet."""
         if self.is_dash:
             return (DASH,)
         if self.found is not None:
             return self.found.st_dev, self.found.st_ino
         folder, name = _found(self.folder), os.path.basename(self.path)
-        # A name in other letters, large or small, is mostly the same file there.
+        # There, names that differ only in upper and lower case mostly name the same file.
         name = name.casefold() if sys.platform in ("win32", "darwin") else name
         return (folder.st_dev, folder.st_ino, name) if folder else (self.path,)
 
     def against(self, kind: Kind, force: bool) -> str | None:
-        """Why it is not to be written, if there is a reason."""
+        """The reason why it must not be written, if there is one."""
         if self.is_dash:
             return None
         if self.found is None:
@@ -81,7 +81,7 @@ def _found(path: str) -> os.stat_result | None:
 
 
 def standard_output() -> os.stat_result | None:
-    """The file that standard output is, if it is one."""
+    """The file to which standard output is redirected, if it is one."""
     try:
         found = os.fstat(sys.stdout.fileno())
     except (OSError, ValueError, AttributeError):
@@ -90,7 +90,7 @@ def standard_output() -> os.stat_result | None:
 
 
 def inputs_of(names: list[str]) -> dict[tuple[object, ...], str]:
-    """The files that a call reads. A character device is none that could be lost."""
+    """The files that a call reads, without character devices, which cannot be lost."""
     found: dict[tuple[object, ...], str] = {}
     for name in names:
         # An input that cannot be used is reported when it is read.
@@ -102,7 +102,7 @@ def inputs_of(names: list[str]) -> dict[tuple[object, ...], str]:
 
 
 def against_standard_output(inputs: dict[tuple[object, ...], str]) -> list[Failure]:
-    """A refusal if standard output is written to a file that is read, and which holds something still."""
+    """A refusal if standard output is redirected to a file that is also read and is not empty."""
     out = standard_output()
     read = inputs.get((out.st_dev, out.st_ino)) if out is not None and out.st_size else None
     return [] if read is None else [Refusal(read, "is an input, and standard output is written to it")]

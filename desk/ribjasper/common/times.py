@@ -1,4 +1,4 @@
-"""Times of a disc: blocks, 75 a second, spelled `MM:SS:FF`."""
+"""Times of a disc: blocks, 75 per second, written `MM:SS:FF`."""
 import argparse
 import re
 
@@ -29,5 +29,5 @@ def blocks(time: str) -> int:
 
 
 def nearest_block(seconds: float) -> int:
-    """The block of the program that comes at a time of the audio."""
+    """The block of the program at a time of the audio."""
     return PAUSE + round(BLOCKS_A_SECOND * seconds)

@@ -14,8 +14,8 @@ class Web(NamedTuple):
 
 
 def web() -> Web | None:
-    """The one in the folder that RIBJASPER_WEB names, or that of the checkout or of the package, if it is built. A module
-    with a 32-bit memory comes first, since every browser runs it."""
+    """The library in the folder of RIBJASPER_WEB, or of the checkout or the package, if it is built. A module with a
+    32-bit memory is preferred, because every browser runs it."""
     named = os.environ.get("RIBJASPER_WEB")
     folders: list[Path | None] = [Path(named)] if named is not None else [checkout("lib", "web"), PACKAGE / "web"]
     for folder in folders:

@@ -1,10 +1,10 @@
-"""Arguments of the command line that several commands take."""
+"""Arguments of the command line that several commands have."""
 import argparse
 from typing import Callable, TypeAlias
 
 from .library import LONGEST_LEAD_IN
 
-# What a command adds its words to.
+# The parser to which a command adds its options.
 Commands: TypeAlias = "argparse._SubParsersAction[argparse.ArgumentParser]"
 
 
@@ -20,7 +20,7 @@ def number_in(least: int, most: int) -> Callable[[str], int]:
 
 
 def seconds_in(least: float, most: float) -> Callable[[str], float]:
-    """Seconds in a range, with a part of a second or without."""
+    """Seconds in a range, with or without a fraction."""
 
     def read_seconds(word: str) -> float:
         try:

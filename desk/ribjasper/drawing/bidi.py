@@ -44,7 +44,7 @@ def levels_of(text: str) -> list[int]:
 
 
 def resolved(letters: list[str], kinds: list[str], base: int) -> list[int]:
-    """The levels of letters whose kinds are these, in a line of this level."""
+    """The levels of letters of these kinds, in a line of this level."""
     side = "R" if base else "L"
     first = list(kinds)
     kinds = weak(kinds, side)
@@ -135,7 +135,7 @@ def brackets(letters: list[str], kinds: list[str], side: str, first: list[str]) 
 
 
 def neutral(kinds: list[str], side: str) -> None:
-    """Rules N1 and N2: what has no direction has that of both its sides, or that of the line."""
+    """Rules N1 and N2: a neutral letter has the direction of both its neighbours if they agree, or that of the line."""
     place = 0
     while place < len(kinds):
         end = place

@@ -9,7 +9,7 @@ from ..common.planning import Plan, PlannedPicture
 # The size of the chart in pixels, and the margins around the bars.
 WIDE, HIGH = 1600, 480
 LEFT, RIGHT, TOP, BOTTOM = 64, 24, 56, 44
-# Colours that differ for a colour-blind reader too.
+# Colours that colour-blind readers can distinguish.
 PAPER, INK, RULE = "#FFFFFF", "#202020", "#DDDDDD"
 FREE, NEED, LATE = "#C6DBEF", "#2171B5", "#D94801"
 # Steps of the axis of times, in seconds.
@@ -17,7 +17,7 @@ STEPS = (1, 2, 5, 10, 15, 30, 60, 120, 300, 600)
 
 
 class Chart:
-    """The picture that is drawn, and the places of times and numbers of packs on it."""
+    """The picture of the chart, and the places of times and numbers of packs on it."""
 
     def __init__(self, plan: Plan):
         image = package("PIL.Image", "python3-pil")
@@ -30,7 +30,7 @@ class Chart:
         return LEFT + (WIDE - LEFT - RIGHT) * block / self.blocks
 
     def up(self, packs: int) -> float:
-        """Powers of ten are equally far apart; no packs are at the foot."""
+        """The height of a number of packs: powers of ten have equal distances, and 0 is at the bottom."""
         return HIGH - BOTTOM - (HIGH - TOP - BOTTOM) * math.log10(1 + packs) / math.log10(1 + self.most)
 
     def axes(self) -> None:
@@ -54,7 +54,7 @@ class Chart:
             self.pen.text((left + 20, 20), word, INK)
 
     def bar(self, row: PlannedPicture) -> None:
-        """As wide as the time from the first free pack to the ready time."""
+        """A bar as wide as the time from the first free pack to the ready time."""
         left = self.across(row.first / PACKS_A_BLOCK)
         right = max(left + 1, self.across(row.ready) - 1)
         foot = HIGH - BOTTOM - 1

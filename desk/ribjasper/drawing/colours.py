@@ -17,7 +17,7 @@ class Colour(NamedTuple):
     blue: int
 
     def word(self) -> str:
-        """As a script names it: `0RGB`."""
+        """Its spelling in a script: `0RGB`."""
         return f"0{self.red:X}{self.green:X}{self.blue:X}"
 
     def lightness(self) -> float:
@@ -87,13 +87,13 @@ def chosen(pixels: Iterable[Colour], most: int) -> list[Colour]:
 
 
 def spread_colours(weights: Counter[Colour], most: int) -> list[Colour]:
-    """The most frequent colour, and then always the one that is worst shown by those before."""
+    """The most frequent colour, and then repeatedly the colour that the earlier ones replace worst."""
     first = weights.most_common(1)[0][0]
     return [first, *farthest(weights, [first], most - 1)]
 
 
 def farthest(weights: Counter[Colour], few: list[Colour], count: int) -> list[Colour]:
-    """So many more colours, each the one that is worst shown by all before it, weighed by its pixels."""
+    """More colours, each of which is replaced worst by all earlier ones, weighted by its pixels."""
     error = {colour: min(colour.far_from(one) for one in few) for colour in weights}
     more: list[Colour] = []
     for _ in range(count):

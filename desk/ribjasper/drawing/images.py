@@ -14,7 +14,7 @@ from .colours import Colour
 from .raster import COLOURS, HEIGHT, Raster, Span, TILE_HEIGHT, TILE_WIDTH, WIDTH, span_lines
 
 Grid = list[bytearray]
-# The pixels of the largest image that is read, and from which distance on a colour is not near another.
+# The pixels of the largest image that is read, and the distance from which on two colours are not near each other.
 MOST_PIXELS = 64_000_000
 FAR = 60
 
@@ -28,8 +28,8 @@ class Flat(NamedTuple):
 
 @dataclass(frozen=True)
 class ImageOptions:
-    """How an image is read: which frame of a file that has several, and whether it fills its place and loses what is
-    beyond, or is shown whole on a ground in the colour of its edge."""
+    """How an image is read: which frame of a file with several, and whether it fills its place and is cropped, or is
+    shown completely on a background in the colour of its edge."""
 
     frame: int | None = None
     crop: bool = False
@@ -40,7 +40,7 @@ def image_package() -> Any:
 
 
 def read_image(path: Path, how: ImageOptions = ImageOptions()) -> Any:
-    """The image of a file in its right orientation, in red, green and blue, on black where it is transparent."""
+    """The image of a file in its right orientation, in red, green and blue, with black where it is transparent."""
     pictures = image_package()
     with reading(path):
         image = pictures.open(path)
@@ -54,7 +54,7 @@ def read_image(path: Path, how: ImageOptions = ImageOptions()) -> Any:
 
 
 def choose_frame(image: Any, path: Path, frame: int | None) -> None:
-    """Turns to a frame of a file that has several."""
+    """Selects a frame of a file with several frames."""
     count = getattr(image, "n_frames", 1)
     if count > 1 and frame is None:
         raise Refusal(path, f"has {count} frames; --frame N chooses one, from 1 to {count}")
@@ -65,15 +65,15 @@ def choose_frame(image: Any, path: Path, frame: int | None) -> None:
 
 
 def in_eight_bits(image: Any) -> Any:
-    """The same image; one of sixteen bits of grey, which Pillow would cut off at 255, by its upper eight."""
+    """The same image; for 16-bit grey, which Pillow would saturate at 255, the upper eight bits of each pixel."""
     if image.mode.startswith("I"):
         return image.convert("I").point(lambda light: light * (1 / 256)).convert("L")
     return image
 
 
 def fitted(image: Any, width: int, height: int, crop: bool = False) -> Any:
-    """The image in this size and in its proportions: whole amid the colour that its edge is mostly near, or filling
-    it."""
+    """The image in this size with its proportions: complete on the colour to which most of its edge is near, or filling
+    the size."""
     if image.size == (width, height):
         return image
     scale = (max if crop else min)(width / image.width, height / image.height)
@@ -98,8 +98,7 @@ def edge_colour(image: Any) -> tuple[int, int, int]:
 
 
 def most_near(edge: Counter[Colour], among: Sequence[Colour]) -> Colour:
-    """The one of some colours that most pixels of an edge are near; how far off those are that are not near counts
-    little."""
+    """The colour to which most pixels of an edge are near; the distance of the other pixels counts little."""
 
     def distance(colour: Colour) -> int:
         return sum(count * min(colour.far_from(other), FAR) for other, count in edge.items())
@@ -146,8 +145,8 @@ def put(rows: Grid, left: int, top: int, change: bytes) -> None:
 
 
 def simplify(flat: Flat, most_error: float) -> None:
-    """Takes colours out of tiles as long as that shows little: the one that is missed least, always into the one that
-    looks most like it. What is left of a tile may be one colour, and then costs little or nothing."""
+    """Removes colours from tiles as long as that is hardly visible: each time the least important one, which the most
+    similar colour replaces. A tile may end with one colour, and then needs few packs or none."""
     for left, top in tiles_of(flat.rows):
         counts = Counter(pixels_of(flat.rows, left, top))
         change, error = bytearray(range(256)), 0.0
@@ -168,12 +167,12 @@ def simplify(flat: Flat, most_error: float) -> None:
 
 @functools.lru_cache(maxsize=None)
 def weight(numbers: int) -> int:
-    """How many packs a tile takes that has the colours whose bits are set."""
+    """The number of packs for a tile with the colours whose bits are set."""
     return tile_weight(frozenset(number for number in range(COLOURS) if numbers >> number & 1))
 
 
 def numbered(flat: Flat, free: Sequence[int]) -> list[int]:
-    """A number for each colour, of those that are free, so that the tiles of three and more colours take few packs."""
+    """Assigns a free number to each colour, so that tiles of three and more colours need few packs."""
     sets = Counter(tuple(sorted(set(pixels_of(flat.rows, left, top)))) for left, top in tiles_of(flat.rows))
     many = {colours: count for colours, count in sets.items() if len(colours) > 2}
     numbers = list(free)
@@ -203,7 +202,7 @@ PLAIN = 2.0
 
 
 def flat_of(image: Any, most: int = COLOURS, simple: float = PLAIN, dither: bool = False) -> Flat:
-    """The image in few colours, and its tiles in fewer; one that has no more colours than that is taken as it is."""
+    """The image in few colours, and its tiles in even fewer; an image with no more colours than that is unchanged."""
     flat = in_colours(image, most, dither)
     if not dither and len(set(image.getdata())) > most:
         simplify(flat, simple)
@@ -211,7 +210,7 @@ def flat_of(image: Any, most: int = COLOURS, simple: float = PLAIN, dither: bool
 
 
 def raster_of(flat: Flat, ground: Raster, left: int, top: int, free: Sequence[int] = range(COLOURS)) -> Raster:
-    """The screen after it is drawn on another one from a pixel on; its colours get some of the free numbers."""
+    """The screen after the image is drawn on another one from a pixel on; its colours get some of the free numbers."""
     numbers = numbered(flat, free)
     raster = ground.copy()
     for number, colour in zip(numbers, flat.colours):
@@ -230,7 +229,7 @@ def whole(
     how: ImageOptions = ImageOptions(),
     border: Colour | None = None,
 ) -> Raster:
-    """An image that fills the window, with a border of this colour, or of the one that most of its edge is near."""
+    """An image that fills the window, with a border in this colour, or in the one to which most of its edge is near."""
     image = fitted(read_image(path, how), WIDTH, HEIGHT, how.crop)
     raster = raster_of(flat_of(image, most, simple, dither), Raster(), 0, 0)
     edge = bytes(raster.rows[0] + raster.rows[-1]) + b"".join(bytes((row[0], row[-1])) for row in raster.rows)
@@ -245,7 +244,7 @@ def whole(
 
 
 def border_number(raster: Raster, used: Sequence[int], border: Colour) -> int:
-    """A colour for the border: one that the image has, a number that is free, or the nearest that there is."""
+    """A colour for the border: one that the image has, a free number, or the nearest colour."""
     free = next((number for number in range(COLOURS) if number not in used), None)
     if border in [raster.colours[number] for number in used] or free is None:
         return used[colouring.nearest_colour(border, [raster.colours[number] for number in used])]
@@ -254,7 +253,7 @@ def border_number(raster: Raster, used: Sequence[int], border: Colour) -> int:
 
 
 def placed_lines(flat: Flat, column: int, row: int, first: int) -> list[str]:
-    """The lines that draw an image from a tile on, over anything that is there."""
+    """The lines that draw an image from a tile on, over any picture."""
     left, top = TILE_WIDTH * column, TILE_HEIGHT * row
     numbers = numbered(flat, range(first, COLOURS))
     colours = [f"colour {number} {colour.word()}" for number, colour in sorted(zip(numbers, flat.colours))]

@@ -1,4 +1,4 @@
-"""Lines of lyrics as letters on the screen: wrapped, aligned, in four levels from the ground to the full colour."""
+"""Lines of lyrics as letters on the screen: wrapped, aligned, in four levels from the background to the full colour."""
 import functools
 import os
 import sys
@@ -11,7 +11,7 @@ from ..common.output import package
 from .bidi import in_sight, levels_of
 from .raster import WIDTH
 
-# A bold font that the system comes with.
+# A bold font that the system has.
 FONTS_OF_SYSTEMS = {
     "win32": Path(os.environ.get("WINDIR", "C:/Windows")) / "Fonts" / "arialbd.ttf",
     "darwin": Path("/System/Library/Fonts/Supplemental/Arial Bold.ttf"),
@@ -34,7 +34,7 @@ FALLBACKS = tuple(
 )
 # A character that no font has: its picture is the one for missing letters.
 NO_LETTER = "\U0010ffff"
-# Whether a font file has a letter, as far as that was asked.
+# Whether a font file has a letter, for letters that were looked up before.
 KNOWN: dict[tuple[Path, str], bool] = {}
 # The box that replaces a missing letter on request, and a sign that joins a letter to the next one.
 BOX, JOINER = "\u25a1", "\u200d"
@@ -46,8 +46,8 @@ LEAST_LETTERS = 8
 
 
 class LetterRun(NamedTuple):
-    """A stretch of a text in one direction that one file has: its letters from and to a place in the text, the number
-    of the file, its first pixel, and its width."""
+    """A run of a text in one direction and from one file: the places of its letters in the text, the number of the
+    file, its first pixel, and its width."""
 
     first: int
     last: int
@@ -58,11 +58,11 @@ class LetterRun(NamedTuple):
 
 
 class Font:
-    """The letters of some files in one size, missing ones from the next file; plain ones have no levels
-    between the ground and the full colour."""
+    """The letters of some files in one size; a missing letter comes from the next file. Plain letters have no levels
+    between the background and the full colour."""
 
     def __init__(self, paths: Sequence[Path], size: int, is_plain: bool = False, others: "Others" = ()):
-        # Voices whose letters are those of other files, or of a size that has this ratio to the other letters.
+        # Voices whose letters come from other files, or have another size, with this ratio to the other letters.
         self.others = others
         self._fonts: dict[int, Font] = {}
         self._given: tuple[Path, ...] = tuple(paths)
@@ -113,7 +113,7 @@ class Font:
         return self._faces[letter]
 
     def has(self, number: int, letter: str) -> bool:
-        """Whether a file has a letter; in one size it has those that it has in others."""
+        """Whether a file has a letter; the size does not matter."""
         key = self.paths[number], letter
         if key not in KNOWN:
             face = self.face(number, self.size)
@@ -158,8 +158,8 @@ class Font:
         return runs
 
     def extents(self, text: str, size: int, first: int, last: int) -> list[tuple[int, int, float, float, bool]]:
-        """The pieces that some letters of a text are in, in the order of reading: from and to a letter, from and to
-        a pixel, and whether the piece runs from right to left."""
+        """The pieces with some letters of a text, in the order of reading: the letters and the pixels from and to which
+        each piece extends, and whether it runs from right to left."""
         found = []
         for run in self.runs(text, size):
             begin, end = max(first, run.first), min(last, run.last)
@@ -170,8 +170,7 @@ class Font:
         return sorted(found)
 
     def _width_up_to(self, text: str, run: LetterRun, place: int, size: int) -> float:
-        """How wide the letters of a run in front of a place are; the last of them has the form that it has in the
-        run."""
+        """The width of the letters of a run before a place; the last of them has the form that it has in the run."""
         if place in (run.first, run.last):
             return run.width if place == run.last else 0.0
         joined = unicodedata.bidirectional(text[place - 1]) == "AL" and text[place].isalpha()
@@ -186,7 +185,7 @@ class Font:
         return self._widths[text, size]
 
     def heights(self, texts: Iterable[str], size: int) -> tuple[int, int]:
-        """How far the letters reach above and below their base line."""
+        """The distance to which the letters extend above and below their base line."""
         boxes = [box for text in texts for box in self.boxes(text, size)]
         return max((-box[1] for box in boxes), default=0), max((box[3] for box in boxes), default=0)
 
@@ -200,7 +199,7 @@ class Font:
         return self._boxes[text, size]
 
     def drawn(self, text: str, size: int, left: int, above: int, height: int) -> bytes:
-        """The light of each pixel, from 0 to 255."""
+        """The lightness of each pixel, from 0 to 255."""
         image = self.images.new("L", (WIDTH, height), 0)
         pen = self.draws.Draw(image)
         for run in self.runs(text, size):
@@ -217,7 +216,7 @@ class Font:
 
 @functools.lru_cache(maxsize=256)
 def font_of(paths: tuple[Path, ...], size: int, is_plain: bool = False, others: Others = ()) -> Font:
-    """A font that is kept, with what it knows of texts, for songs that are planned again after a change."""
+    """A font that is kept with its data about texts, for songs that are planned again after a change."""
     return Font(paths, size, is_plain, others)
 
 
@@ -230,11 +229,11 @@ def has_directions() -> bool:
 
 @functools.lru_cache(maxsize=None)
 def is_drawn(letter: str) -> bool:
-    """Whether a letter has a picture of its own: no blank, mark or sign that only joins others."""
+    """Whether a letter has its own picture: it is no space, mark or sign that only joins others."""
     return not letter.isspace() and unicodedata.category(letter) not in ("Mn", "Cf")
 
 
 def named(letter: str) -> str:
-    """A letter as messages spell it: itself, its number and its name."""
+    """A letter in messages: the letter, its number and its name."""
     name = unicodedata.name(letter, "").lower()
     return f"{letter} (U+{ord(letter):04X}{' ' * bool(name)}{name})"

@@ -17,7 +17,7 @@ AS_DIGITS = bytes.maketrans(bytes(range(COLOURS)), DIGITS.encode())
 
 @dataclass
 class Raster:
-    """What the screen shows: the numbers of the colours, row by row, the sixteen colours and the border's number."""
+    """The picture of the screen: the colour numbers row by row, the sixteen colours, and the number of the border."""
 
     rows: list[bytearray] = field(default_factory=lambda: [bytearray(WIDTH) for _ in range(HEIGHT)])
     colours: list[Colour] = field(default_factory=lambda: [BLACK] * COLOURS)
@@ -49,7 +49,7 @@ class Span(NamedTuple):
 
 
 def spans(before: Sequence[bytes], after: Sequence[bytes], first: int = 0) -> Iterator[Span]:
-    """For each row that changes, counted from a first one, the stretch from its first to its last pixel that does."""
+    """For each row that changes, numbered from `first`, the span from its first to its last changed pixel."""
     for top, (old, new) in enumerate(zip(before, after), first):
         if old != new:
             differ = (int.from_bytes(old, "big") ^ int.from_bytes(new, "big")).to_bytes(WIDTH, "big")

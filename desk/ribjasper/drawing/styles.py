@@ -12,7 +12,7 @@ from ..common.output import read_file
 from .colours import Colour, blend, read_colour
 from .raster import BLACK, COLOURS, HEIGHT, Raster, TILE_HEIGHT
 
-# The styles that ship, and where fonts are looked for by their names.
+# The styles in the package, and where fonts are searched by their names.
 FOLDER = Path(__file__).parent / "styles"
 FOLDERS_OF_SYSTEMS = {
     "win32": (
@@ -24,7 +24,7 @@ FOLDERS_OF_SYSTEMS = {
 FONT_FOLDERS = FOLDERS_OF_SYSTEMS.get(
     sys.platform, (Path("/usr/share/fonts"), Path("/usr/local/share/fonts"), Path.home() / ".local/share/fonts")
 )
-# The number of the colour of the ground, and the bit that the number of a sung letter has more.
+# The number of the background colour, and the bit that is added to the number of a letter when it is sung.
 GROUND, SUNG = 0, 8
 VOICES = 4
 ALIGNMENTS = ("left", "centre", "right")
@@ -34,7 +34,7 @@ LEAST_SIZE, MOST_SIZE = 10, 40
 
 @dataclass(frozen=True)
 class Voice:
-    """The colours of a singer: of text that is still to be sung, and of sung text; and the letters of the singer."""
+    """The colours of a singer: for unsung and for sung text; and the letters of the singer."""
 
     unsung: Colour
     sung: Colour
@@ -44,16 +44,16 @@ class Voice:
 
 @dataclass(frozen=True)
 class Inks:
-    """The numbers of colours: for each voice its levels, from the one next to the ground to the full colour; of an
-    outline around letters; and of the border. One or two voices have three levels, three have two. Of four voices two
-    share the level between the ground and the full colour."""
+    """The colour numbers: for each voice its levels, from the one next to the background to the full colour; of an
+    outline around letters; and of the border. One or two voices have three levels, three voices have two. With four
+    voices, two voices share the level between the background and the full colour."""
 
     levels: tuple[tuple[int, ...], ...]
     outline: int
     border: int
 
     def full(self, voice: int) -> int:
-        """The full colour of a voice; further voices have the last one."""
+        """The full colour of a voice; additional voices have the last one."""
         return self.levels[min(voice, len(self.levels) - 1)][-1]
 
     @property
@@ -63,12 +63,12 @@ class Inks:
 
     @functools.cached_property
     def lit(self) -> bytes:
-        """The number that each number has when it is sung: one bit more, so that one pack a tile lights a word."""
+        """The number for each number when it is sung: one more bit, so that one pack per tile lights a word."""
         return bytes(number | SUNG if number in self.every else number for number in range(256))
 
     @functools.lru_cache(maxsize=None)
     def levelled(self, voice: int, is_plain: bool) -> bytes:
-        """The number for each light of a pixel, from 0 to 255; plain letters have only the full colour."""
+        """The number for each lightness of a pixel, from 0 to 255; plain letters have only the full colour."""
         numbers = (GROUND, *self.levels[min(voice, len(self.levels) - 1)])
         most = len(numbers) - 1
         if is_plain:
@@ -102,12 +102,12 @@ class Style:
     path: Path | None = None
 
     def files(self) -> list[Path]:
-        """The files that it is read from."""
+        """The files from which it is read."""
         fonts = [*self.fonts, *(path for voice in self.voices for path in voice.fonts)]
         return [path for path in (self.path, self.background, *fonts) if path]
 
     def voice(self, number: int) -> Voice:
-        """The colours of a voice; further voices have those of the last one."""
+        """The colours of a voice; additional voices have those of the last one."""
         return self.voices[min(number, len(self.voices) - 1)]
 
     @property
@@ -121,12 +121,12 @@ class Style:
         return HEIGHT // TILE_HEIGHT // self.rows
 
     def top(self, slot: int) -> int:
-        """The first pixel row of a row of a page; rows that are left over come above the first."""
+        """The first pixel row of a row of a page; pixel rows that are left over are above the first row."""
         above = HEIGHT // TILE_HEIGHT - self.rows * self.slot_rows
         return TILE_HEIGHT * (above + self.slot_rows * slot)
 
     def colours(self, voices: int) -> dict[int, Colour]:
-        """The numbers of all colours but those of a background."""
+        """The numbers of all colours except those of a background."""
         inks = INKS[voices]
         numbers = {GROUND: self.ground, inks.border: self.border}
         if self.edge:
@@ -150,7 +150,7 @@ class Style:
         return raster
 
     def others(self, size: int) -> tuple[tuple[int, tuple[Path, ...], float], ...]:
-        """The voices with letters of their own, as a font has them that is to have this size."""
+        """The voices with their own letters, for a font of this size."""
         base = self.size or size
         return tuple(
             (number, voice.fonts, (voice.size or base) / base)
@@ -160,12 +160,12 @@ class Style:
 
 
 def middle(colours: Sequence[Colour]) -> Colour:
-    """The colour between some colours."""
+    """The mean of some colours."""
     return Colour(*(round(sum(parts) / len(parts)) for parts in zip(*colours)))
 
 
 class TomlTable:
-    """A table of TOML whose keys are asked for one by one; what is no such thing is refused by its name."""
+    """A table of TOML whose keys are read one by one; a wrong value is refused with its name."""
 
     def __init__(self, path: Path, values: dict[str, Any]):
         self.path, self.values = path, dict(values)
@@ -214,7 +214,7 @@ class TomlTable:
         return [TomlTable(self.path, one) for one in found or []]
 
     def end(self) -> None:
-        """Refuses what was not asked for."""
+        """Refuses keys that were not read."""
         if self.values:
             raise Refusal(self.path, f"knows nothing of {', '.join(map(repr, self.values))}")
 
@@ -231,7 +231,7 @@ def read_table(path: Path) -> TomlTable:
 
 
 def shipped() -> list[str]:
-    """The names of the styles that ship."""
+    """The names of the styles in the package."""
     return sorted(path.stem for path in FOLDER.glob("*.toml"))
 
 
@@ -265,7 +265,7 @@ def read_style(word: str) -> Style:
 
 
 def check_colours(style: Style) -> None:
-    """Refuses letters in the colour of the ground, and sung letters in the colour of unsung ones."""
+    """Refuses letters in the background colour, and sung letters in the colour of unsung ones."""
     for number, voice in enumerate(style.voices, 1):
         if style.ground in (voice.sung, voice.unsung):
             which = "sung" if voice.sung == style.ground else "unsung"

@@ -27,8 +27,8 @@ class Again(NamedTuple):
 
 
 class Wanted(NamedTuple):
-    """All that is to be read again; the sectors of the program, from the first up to the end; and how many damaged
-    blocks have no known address."""
+    """All sectors to read again; the sectors of the program, from the first up to the end; and the number of damaged
+    blocks without a known address."""
 
     parts: list[Again]
     first: int
@@ -70,7 +70,7 @@ def wanted(loaded: Loaded, errors: DriveErrors | None = None) -> Wanted:
 
 
 def timed_parts(clock: Clock, run: Run) -> list[tuple[int, int] | None]:
-    """The absolute times of neighbouring blocks, in parts that go on by one; none for a block without a time."""
+    """The absolute times of neighbouring blocks, in parts with consecutive times; None for a block without a time."""
 
     def next_one(before: tuple[int, int] | None, behind: tuple[int, int] | None) -> tuple[int, int] | None:
         return (before[0], behind[1]) if before and behind and behind[0] == before[1] + 1 else None
@@ -80,7 +80,7 @@ def timed_parts(clock: Clock, run: Run) -> list[tuple[int, int] | None]:
 
 
 def merged_runs(parts: Iterable[tuple[int, int, str]]) -> list[Again]:
-    """Parts in order, near ones as one."""
+    """Parts in order; near ones are merged."""
 
     def near(before: Again, behind: Again) -> Again | None:
         if behind.first > before.last + NEAR + 1:
@@ -94,7 +94,7 @@ NAMES = ("first-lba", "last-lba", "from", "to", "sectors", "why")
 
 
 def table(of: Wanted) -> str:
-    """Both addresses and times, and why."""
+    """The addresses and times of each part, and the reasons."""
     rows: list[Sequence[object]] = [NAMES]
     for it in of.parts:
         times = spelled(it.first + PAUSE), spelled(it.last + PAUSE)
@@ -132,7 +132,7 @@ def span(first: int, end: int) -> str:
     return f"[{begin}]-[{last}]"
 
 
-# How a list is written, by its name.
+# The ways of writing a list, by name.
 FORMATS: dict[str, Callable[[Wanted], str]] = {
     "table": table,
     "lba": lambda of: lines(of, lambda first, end: f"{first}-{end - 1}"),

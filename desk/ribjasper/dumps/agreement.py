@@ -9,7 +9,7 @@ from .survey import has_graphics_bits
 
 
 class Packs(NamedTuple):
-    """The packs of a stream, and a byte for each, 1 where it is not idle."""
+    """The packs of a stream, and a byte for each, 1 if it is not idle."""
 
     content: bytes
     busy: bytes
@@ -24,8 +24,9 @@ SOME, NO_CHANCE = 8, 4
 
 @dataclass
 class Shared:
-    """In how many words two readings have packs that are not idle, how many of these are the same, in how many parts
-    both have packs and none is the same, and in how many the first has packs and none is the same."""
+    """The number of words in which two readings have packs that are not idle; how many of these are equal; the number
+    of parts in which both have packs and none is equal; and the number in which the first has packs and none is
+    equal."""
 
     all: int = 0
     same: int = 0
@@ -73,7 +74,7 @@ def packs_of_part(stream: bytes, blocks: int) -> Packs:
 
 
 def far_apart(parts: int) -> Iterator[int]:
-    """The numbers of parts, in an order in which neighbours in this order are far from each other."""
+    """The numbers of parts, in an order in which neighbours are far from each other."""
     bits = max(1, (parts - 1).bit_length())
     for number in range(1 << bits):
         place = int(f"{number:0{bits}b}"[::-1], 2)

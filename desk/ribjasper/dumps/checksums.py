@@ -18,7 +18,7 @@ DOCTYPE = (
 )
 
 
-# How names of files spell the number of a track.
+# The number of a track in names of files.
 TRACK_MARK = re.compile(r"\(Track (\d+)\)", re.IGNORECASE)
 
 
@@ -49,14 +49,14 @@ def sums_of(path: str) -> Sums:
 
 
 def plain(name: str) -> str:
-    """A name as XML can have it: bytes that are no text, and control characters, are written as \\xHH."""
+    """A name that XML can contain: bytes that are no text, and control characters, are written as \\xHH."""
     text = os.fsencode(name).decode("utf-8", "backslashreplace")
     return "".join(letter if letter >= " " else f"\\x{ord(letter):02x}" for letter in text)
 
 
 def dat(title: str, files: Iterable[tuple[str, Sums]]) -> bytes:
-    """A list in the form of Logiqx: a game for each name without its ending and the number of a track, with the files
-    that have it."""
+    """A list in the Logiqx format: a game for each name without its ending and its track number, with the files that
+    have this name."""
     top = xml.Element("datafile")
     header = xml.SubElement(top, "header")
     for name, value in (("name", title), ("description", title), ("version", "1"), ("author", "ribjasper-desk")):
@@ -100,7 +100,7 @@ class Game(NamedTuple):
         return sorted(found, key=lambda it: track_number(it.name))
 
 
-# How the files of tracks end in lists; sheets are no tracks.
+# The endings of files of tracks in lists; sheets are no tracks.
 TRACK_ENDINGS = (".bin", ".iso", ".img", ".raw")
 
 

@@ -19,7 +19,7 @@ class Run(NamedTuple):
 
 
 def either(*columns: bytes) -> bytes:
-    """A byte that is not zero where one of the columns is not."""
+    """A byte that is not zero if one of the columns is not."""
     found = 0
     for column in columns:
         found |= int.from_bytes(column, "little")
@@ -37,17 +37,17 @@ def different(a: bytes, b: bytes) -> bytes:
 
 
 def flags(column: bytes) -> bytes:
-    """A byte that is 1 where a column is not zero."""
+    """A byte that is 1 if a column is not zero."""
     return column.translate(_SET)
 
 
 def busy(content: bytes, unit: int) -> bytes:
-    """A byte for each unit of `unit` bytes, 1 where the unit is not all zeros."""
+    """A byte for each unit of `unit` bytes, 1 if the unit is not all zeros."""
     return flags(either(*(content[place::unit] for place in range(unit)))) if content else b""
 
 
 def runs(column: bytes) -> list[Run]:
-    """Where a column is not zero."""
+    """The runs in which a column is not zero."""
     return [Run(found.start(), found.end() - 1) for found in re.finditer(rb"[^\x00]+", column)]
 
 

@@ -35,8 +35,8 @@ def time_at(source: Source, base: TimeBase, time: int) -> int:
 
 @dataclass
 class CueTrack:
-    """A track of a cue sheet: its indexes by their times in all of its files, one behind another, with the silence that
-    no file has and without it; whether it is data; and its code."""
+    """A track of a cue sheet: its indexes by their times in all of its files, one after another, with and without the
+    silence that is in no file; whether it is data; and its code."""
 
     number: int
     indices: dict[int, int] = field(default_factory=dict)
@@ -63,7 +63,7 @@ def blocks_of(word: str) -> int | None:
 
 
 def named_file(folder: Path, name: str) -> tuple[str, int, int] | None:
-    """A file that a sheet names, the bytes of its sectors and how many there are, if it is there."""
+    """A file that a sheet names, the bytes of its sectors and their number, if it exists."""
     path = folder / os.path.basename(name.replace("\\", "/"))
     try:
         size = path.stat().st_size
@@ -117,7 +117,7 @@ def read_cue(path: str, content: bytes) -> Cue:
         raise Refusal(path, "has no track")
     gaps = 0
     for track in cue.tracks:
-        # Silence that no file has comes before index 01 and all that follows.
+        # Silence that is in no file comes before index 01 and everything after it.
         gaps += track.pregap
         track.plain = track.indices
         track.indices = {

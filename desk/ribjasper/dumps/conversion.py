@@ -58,7 +58,7 @@ def pressed(loaded: Loaded, sheet: str | None) -> bytes:
 
 
 def coded(raw: bytes, target: Form) -> bytes:
-    """Raw blocks as a form has them."""
+    """Raw blocks in the subcode encoding of a form."""
     turn: Callable[[bytes], bytes] = {Coding.PLANAR: to_planar, Coding.PQ: to_pq}.get(target.coding, bytes)
     return in_order(turn(raw), target.order)
 
@@ -109,7 +109,7 @@ def in_parts(content: bytes, size: int) -> Iterator[bytes]:
 
 
 def gathered(parts: Iterator[bytes], size: int) -> Iterator[bytes]:
-    """The same bytes in parts of whole pieces of a size."""
+    """The same bytes, in parts whose length is a multiple of a size."""
     rest = b""
     for part in parts:
         rest += part
@@ -120,7 +120,7 @@ def gathered(parts: Iterator[bytes], size: int) -> Iterator[bytes]:
 
 
 def converted(loaded: Loaded, target: Form, sources: Sources = Sources(), first: int = 0) -> Iterator[bytes]:
-    """The blocks that are loaded in another form, in parts; the first of them has a number in the file."""
+    """The loaded blocks in another form, in parts; `first` is the number of the first one in the file."""
     if target.is_packs():
         parts = (in_order(part, target.order) for part in packs(loaded, target))
         subcode = gathered(parts, target.size)

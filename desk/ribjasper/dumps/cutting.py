@@ -1,5 +1,5 @@
-"""Tracks cut out of a disc image as published lists have them: 2,352 bytes a sector, data tracks from index 01, and
-audio tracks from their pauses, moved by an offset in samples."""
+"""Tracks cut out of a disc image as in published lists: 2,352 bytes per sector, data tracks from index 01 on, and audio
+tracks from their pauses on, moved by an offset in samples."""
 import hashlib
 import os
 import zlib
@@ -23,14 +23,14 @@ from .q_disc import disc, QDisc, Source
 
 SAMPLE = 4
 AT_ONCE = 512
-# No drive and no pressing moves audio by more samples.
+# No drive and no pressing moves audio by more samples than this.
 MOST_OFFSET = 5 * 588
-# As sectors.
+# The same in sectors.
 REACH = MOST_OFFSET * SAMPLE // AUDIO
 
 
 class FileSectors(NamedTuple):
-    """Sectors of a file: where the first begins, how many bytes apart they are, and how many there are."""
+    """Sectors of a file: the place of the first, the distance between them in bytes, and their number."""
 
     path: str
     start: int
@@ -49,7 +49,7 @@ class Image:
         return sum(it.sectors for it in self.stretches)
 
     def read(self, first: int, count: int) -> bytes:
-        """The bytes of sectors; zeros where there are none."""
+        """The bytes of sectors, with zeros for missing ones."""
         parts = []
         place, left = first, count
         if place < 0:
@@ -172,7 +172,7 @@ def sheet_beside(path: str) -> str | None:
 
 
 def open_disc(path: str, words: DumpOptions = DumpOptions()) -> CutDisc:
-    """An image with its tracks: sectors with subcode, whose Q channel names the tracks, or other sectors with a
+    """An image with its tracks: sectors with subcode, whose Q channel gives the tracks, or other sectors with a
     sheet."""
     sheet, size = sheet_beside(path), DumpFile(path).size
     is_plain = path == sheet or (sheet is not None and size % AUDIO == 0 and size % SECTOR != 0)
@@ -202,7 +202,7 @@ def track_bytes(cut: CutDisc, track: CutTrack, offset: int = 0) -> Iterator[byte
 
 
 def sound(cut: CutDisc, first: int, count: int) -> bytes:
-    """The audio of sectors; zeros where there are none, or data."""
+    """The audio of sectors, with zeros for missing ones and for data."""
     content = bytearray(cut.image.read(first, count))
     for track in cut.tracks:
         if track.is_data:
@@ -227,7 +227,7 @@ def hashed(cut: CutDisc, track: CutTrack, offset: int = 0) -> Hashed:
     return Hashed(track, Sums(size, f"{crc:08x}", *(digest.hexdigest() for digest in digests)), codes)
 
 
-# Where a track of a list begins in an image: the checksum of each place is worked out from those of all beginnings.
+# Finding the place of a track of a list in an image: the checksum of each place follows from those of all prefixes.
 
 
 def shift_tables(length: int) -> list[list[int]]:
@@ -255,7 +255,8 @@ def shift_tables(length: int) -> list[list[int]]:
 
 
 def offsets_with(content: bytes, length: int, wanted: set[int]) -> Iterator[tuple[int, int]]:
-    """Where in a content, sample by sample, a part of this length has one of these CRC-32: the place and the CRC."""
+    """The places in some bytes, sample by sample, at which a part of this length has one of these CRC-32, with the
+    CRC."""
     ends = (len(content) - length) // SAMPLE
     if ends < 0:
         return
@@ -275,8 +276,8 @@ def offsets_with(content: bytes, length: int, wanted: set[int]) -> Iterator[tupl
 
 
 def found_offset(cut: CutDisc, listed: Sequence[Listed]) -> int | None:
-    """The offset with which the audio tracks are in a list, by their sizes and CRC-32: the nearest to none of those
-    that fit the shortest track, and as long as there are several, the next one too. Silence fits everywhere."""
+    """The offset of the audio tracks in a list, by their sizes and CRC-32: of the offsets that fit the shortest track
+    (and, while there are several, the next one too), the one nearest to 0. Silence fits everywhere."""
     by_size: dict[int, set[int]] = {}
     for it in listed:
         if it.values.get("size", "").isdecimal() and "crc32" in it.values:
@@ -309,7 +310,7 @@ def is_listed(track: Hashed, listed: Listed | None) -> bool:
 
 
 def compared(tracks: Sequence[Hashed], games: Sequence[Game]) -> Comparison:
-    """The disc of a list that an image is, track by track."""
+    """Compares an image with the disc of a list, track by track."""
 
     def same(game: Game) -> int:
         return sum(is_listed(it, listed) for it, listed in zip(tracks, padded(game, len(tracks))))
@@ -328,13 +329,13 @@ def compared(tracks: Sequence[Hashed], games: Sequence[Game]) -> Comparison:
 
 
 def padded(game: Game, count: int) -> list[Listed | None]:
-    """The tracks of a disc of a list, as many as there are to compare."""
+    """The tracks of the disc of a list, as many as there are to compare."""
     found: list[Listed | None] = [*game.tracks]
     return [*found, *[None] * max(0, count - len(found))][:count]
 
 
 def file_name(name: str, track: CutTrack, tracks: int) -> str:
-    """How lists name the file of a track."""
+    """The name of the file of a track in lists."""
     stem = os.path.splitext(Path(name).name)[0]
     if tracks == 1:
         return f"{stem}.bin"

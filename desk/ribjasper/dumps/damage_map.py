@@ -26,8 +26,8 @@ def meanings() -> list[tuple[str, tuple[int, int, int]]]:
 
 
 def draw(cells: bytes, jumped: set[int], marks: Sequence[str], has_legend: bool = True) -> Any:
-    """A row a minute with the time at its left, a cell a second, and below what the colours mean, if it is asked
-    for."""
+    """A row per minute with the time at its left, a cell per second, and below, if requested, a legend of the
+    colours."""
     drawing, images = package("PIL.ImageDraw", "python3-pil"), package("PIL.Image", "python3-pil")
     rows = max(1, len(marks))
     legend = TOP + rows * CELL + 8

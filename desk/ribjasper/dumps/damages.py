@@ -1,4 +1,4 @@
-"""Where a dump is damaged: runs of blocks, jumps of its time, and a map."""
+"""The damage of a dump: runs of blocks, jumps of its time, and a map."""
 from typing import Any, Iterator, NamedTuple
 
 from . import damage_map
@@ -29,12 +29,12 @@ class Damage(NamedTuple):
     empty: int = 0
 
     def place(self) -> str:
-        """Where it is, in a word."""
+        """The place as text: a range of blocks, or a jump."""
         return f"jump {self.first}" if self.kind == JUMP else f"{self.first}-{self.last}"
 
 
 def damaged(survey: Survey) -> bytes:
-    """A byte for each block, not zero where anything is wrong with it."""
+    """A byte for each block, not zero if anything is wrong with it."""
     words = (survey.column(name) for name in ("one", "two", "bad"))
     return either(*words, survey.bad_frames, survey.empty)
 
@@ -57,7 +57,7 @@ def run_of(survey: Survey, clock: Clock, run: Run) -> Damage:
 
 
 def jumps(survey: Survey, clock: Clock) -> Iterator[Damage]:
-    """Where the absolute time does not go on by one: from the time before to the one after."""
+    """The places at which absolute times are not consecutive: the time before and the time after each."""
     tracks = survey.column("track")
     for _, before, after in clock.jumps():
         track = f"{tracks[after.first]:02}"
@@ -65,7 +65,7 @@ def jumps(survey: Survey, clock: Clock) -> Iterator[Damage]:
 
 
 def damages(survey: Survey) -> list[Damage]:
-    """All that is damaged, in the order of the file."""
+    """All damage, in the order of the file."""
     clock = Clock(survey)
     found = [run_of(survey, clock, run) for run in runs(damaged(survey))]
     return sorted([*found, *jumps(survey, clock)], key=lambda it: (it.first, it.kind))
@@ -81,12 +81,12 @@ def unread_damages(survey: Survey) -> list[Damage]:
 
 
 def damages_of(loaded: Loaded) -> list[Damage]:
-    """All that is damaged in a dump. Packs without parity have no known damage."""
+    """All damage of a dump. Packs without parity have no known damage."""
     return damages(loaded.survey) if loaded.form.library != library.PACKS or has_parity(loaded) else []
 
 
 def worst_by_second(survey: Survey) -> bytes:
-    """For each second of the file the worst that is in it, as a number of damage_map.STATES."""
+    """The worst state in each second of the file, as a number of damage_map.STATES."""
     corrected = either(survey.column("one"), survey.column("two"))
     worst = bytearray(survey.blocks)
     for state, column in (

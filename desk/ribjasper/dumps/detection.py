@@ -13,26 +13,26 @@ from .survey import Survey
 # A form is tried in windows of WINDOW bytes, the same bytes for each form. First a few windows are read, until enough
 # of them are not empty. If these decide nothing, windows from everywhere are read.
 WINDOW, FEW, ENOUGH, MANY = 1 << 17, 64, 12, 64
-# How often random bytes are good by chance: a Q frame of any kind, one with fields of its own, one with fields and no
-# check, a word with a codeword near it, and the first symbols of a pack of graphics.
+# The probability that random bytes are good by chance: a Q frame of any kind, one with its own fields, one with fields
+# and no check, a word with a codeword near it, and the first symbols of a graphics pack.
 CHANCE_FRAME, CHANCE_FIELDS, CHANCE_UNCHECKED, CHANCE_WORD, CHANCE_PACK = 2**-16, 1e-9, 1e-5, 1.6e-5, 9 / 4096
-# How unlikely chance has to be.
+# The greatest probability of chance for a form that is accepted.
 UNLIKELY = 1e-8
-# A form that explains the share SURE of the non-empty units is taken at once. A form that explains less than the share
-# COMPARABLE of the best form's units is excluded. From the share AS_MUCH on, it counts as equally good.
+# A form that explains the share SURE of the non-empty units is accepted at once. A form that explains less than the
+# share COMPARABLE of the best form's units is excluded. From the share AS_MUCH on, it counts as equally good.
 SURE, COMPARABLE, AS_MUCH = 0.9, 0.7, 0.95
 # A form is excluded if another form explains this many times more frames.
 FAR_LESS = 10
-# Where the best form explains so much, no stranger ones are tried.
+# If the best form explains this share, no unusual ones are tried.
 LIKELY_BY_Q, LIKELY_BY_WORDS = 0.2, 0.5
-# Q decides before words do, unless it explains less than so much and words are likely.
+# Q decides before words do, unless it explains less than this share and words are likely.
 LITTLE = 0.05
 # The minimum share of graphics packs in a file of packs without parity, and the minimum share of words that are not
 # idle.
 LEAST_PACKS, LEAST_WORDS = 0.2, 0.05
 # The minimum share of non-empty blocks whose frames have valid fields, if the checks of the frames may be missing.
 LEAST_UNCHECKED = 0.25
-# A header that is longer than a unit ends, up to here, where a frame is good or a block empty.
+# A header longer than a unit ends before this place, at a good frame or an empty block.
 MOST_HEADER = 4096
 # Unusual forms are tried in STRANGE_WINDOWS windows. If the length of a file does not determine its header, TRIED_UNITS
 # units are tried from each byte on, or from each fourth byte on for sectors.
@@ -43,15 +43,15 @@ _IS_INSTRUCTION = bytes(symbol in (1, 2, 6, 20, 24, 28, 30, 31, 38) for symbol i
 
 
 class Window(NamedTuple):
-    """Bytes of a file, from one on."""
+    """Bytes of a file from a place on."""
 
     start: int
     content: bytes
 
 
 class Signs(NamedTuple):
-    """What speaks for a form: how many Q frames are not empty, how many of them are good, and how many have fields of
-    their own; how many words carry something, of how many that are not idle, and of how many in all."""
+    """The evidence for a form: the number of Q frames that are not empty, of good ones, and of those with their own
+    fields; the number of nonempty words, of words that are not idle, and of all words."""
 
     frames: int = 0
     good: int = 0
@@ -109,14 +109,14 @@ class Found(NamedTuple):
         return Explained(False, it.carrying / it.busy, it.carrying) if is_so else None
 
     def is_sure_among(self, others: Sequence["Found"]) -> bool:
-        """Whether nothing better can come: it explains nearly all, and no less than the others that were tried."""
+        """Whether no better form can follow: it explains nearly all units, and no less than the other forms so far."""
         found = self.explained()
         if found is None or not found.by_q or found.share < SURE:
             return False
         return all(found.size >= AS_MUCH * it.size for other in others if (it := other.explained()))
 
     def is_likely(self) -> bool:
-        """Whether nothing else has to be tried."""
+        """Whether no other form has to be tried."""
         found = self.explained()
         return found is not None and found.share >= (LIKELY_BY_Q if found.by_q else LIKELY_BY_WORDS)
 
@@ -130,14 +130,14 @@ def is_no_chance(count: int, of: int, chance: float) -> bool:
 
 
 def frame_signs(blocks: bytes) -> tuple[int, int, int]:
-    """How many Q frames are not empty, how many are good, and how many of these have fields."""
+    """The numbers of Q frames that are not empty, of good ones, and of these with fields."""
     survey = Survey(blocks, RAW, 0, is_trimmed=False)
     good = survey.good_frames()
     return survey.blocks - sum(survey.column("empty")), good, good - survey.column("q").count(library.Q_OTHER)
 
 
 def word_signs(blocks: bytes, form: int) -> tuple[int, int, int]:
-    """How many words carry something, how many are not idle, and how many there are."""
+    """The numbers of nonempty words, of words that are not idle, and of all words."""
     packs, counts = library.packs_of_blocks(blocks, form, 0)
     firsts = packs[::PACK]
     carrying = len(firsts) - firsts.count(0)
@@ -145,7 +145,7 @@ def word_signs(blocks: bytes, form: int) -> tuple[int, int, int]:
 
 
 def pack_signs(symbols: bytes) -> tuple[int, int, int]:
-    """How many packs of graphics there are, how many packs are not idle, and how many there are."""
+    """The numbers of graphics packs, of packs that are not idle, and of all packs."""
     kinds, instructions = symbols[::PACK].translate(_IS_GRAPHICS), symbols[1::PACK].translate(_IS_INSTRUCTION)
     return sum(both(kinds, instructions)), sum(busy(symbols, PACK)), len(kinds)
 
@@ -177,14 +177,14 @@ def signs(windows: Sequence[Window], form: Form, skip: int) -> Signs:
 
 
 def best_form(candidates: Sequence[Found]) -> Found | None:
-    """The form that explains most. Q decides before words do. Of forms that explain much the same share, those which
-    explain most; of these the one with the fewest words, for packs behind silent audio are found without the sectors
-    too."""
+    """The form that explains most. Q decides before words do. Of forms that explain nearly the same share, those that
+    explain most; of these, the one with the fewest words, because packs behind silent audio are found without the
+    sectors too."""
     explaining = [(explained, found) for found in candidates if (explained := found.explained())]
     by_q = [it for it in explaining if it[0].by_q]
     by_words = [it for it in explaining if not it[0].by_q]
     if by_q and (max(it[0].share for it in by_q) >= LITTLE or not any(found.is_likely() for _, found in by_words)):
-        # A form with longer units may meet some good frames of the right one, where most frames are bad.
+        # If most frames are bad, a form with longer units may hit some good frames of the right one.
         most = max(it[0].size for it in by_q)
         explaining = [it for it in by_q if FAR_LESS * it[0].size >= most]
     else:
@@ -203,8 +203,8 @@ def best_form(candidates: Sequence[Found]) -> Found | None:
 
 
 def may_have_header(form: Form) -> bool:
-    """Whether a header in front of a form is searched for. A file of packs has none: without its first packs it looks
-    like a file of packs too."""
+    """Whether a header before a form is searched. A file of packs has none: without its first packs it also resembles a
+    file of packs."""
     return form.is_in_sectors() or not form.is_packs()
 
 
@@ -219,7 +219,8 @@ def tried(
 
 
 def offsets(windows: Sequence[Window], form: Form) -> Iterator[int]:
-    """At which bytes, up to the length of a unit, units of a form may begin: where frames, or words, are good."""
+    """The bytes, up to the length of a unit, at which units of a form may begin, because frames or words are good
+    there."""
     for skip in range(0, form.unit, SECTOR_STEP if form.is_in_sectors() else 1):
         found = 0
         for window in windows:
@@ -231,7 +232,7 @@ def offsets(windows: Sequence[Window], form: Form) -> Iterator[int]:
 
 
 def windows_of(dump: DumpFile, is_thorough: bool) -> list[Window]:
-    """Windows that are not empty, in order: enough of a few places, or many of all places."""
+    """Windows that are not empty, in order: enough from a few places, or many from all places."""
     places = -(-dump.size // WINDOW)
     if places <= FEW or is_thorough:
         starts = [WINDOW * place for place in range(places)]
@@ -252,7 +253,7 @@ def is_all_zeros(dump: DumpFile) -> bool:
 
 
 def past_header(dump: DumpFile, found: Found) -> Found:
-    """The same form behind the whole of a header that is longer than a unit, where what comes first is unlikely to be
+    """The same form behind the whole of a header that is longer than a unit, if the bytes before are unlikely to be
     damage."""
     explained = found.explained()
     if not found.skip or found.form.unit != BLOCK or explained is None or not explained.by_q or explained.share < SURE:
@@ -269,8 +270,8 @@ def has_units(dump: DumpFile, form: Form) -> bool:
 
 
 def as_named(dump: DumpFile, found: Found) -> Found:
-    """Packs with parity are both a cooked dump and a `.cdg` file: the name of the file decides, or a length that is no
-    whole blocks."""
+    """Packs with parity are both a cooked dump and a `.cdg` file: the name of the file decides, or a length that is not
+    a multiple of a block."""
     if found.form.coding is not Coding.COOKED or found.form.is_in_sectors():
         return found
     is_cdg = dump.path.lower().endswith(".cdg") or (dump.size - found.skip) % found.form.unit
@@ -278,7 +279,7 @@ def as_named(dump: DumpFile, found: Found) -> Found:
 
 
 def stages(dump: DumpFile, windows: Sequence[Window], skip: int | None) -> Iterator[Iterator[Found]]:
-    """What is tried, the likeliest first: each form; those with their bits or bytes in another order; a header whose
+    """The forms to try, the likeliest first: each form; those with their bits or bytes in another order; a header whose
     length does not follow from that of the file; and other places of the file."""
     skips = None if skip is None else [skip]
     plain = [form for form in PLAIN_FORMS if has_units(dump, form)]
@@ -294,8 +295,8 @@ def stages(dump: DumpFile, windows: Sequence[Window], skip: int | None) -> Itera
 
 
 def form_of(dump: DumpFile, skip: int | None = None) -> tuple[Found | None, list[str]]:
-    """The form of a dump and its header, or none and what speaks against each form. A header that is given is not
-    searched for."""
+    """The form of a dump and its header, or None and the reasons against each form. A header is not searched if it is
+    given."""
     seen: list[Found] = []
     found = None
     if not any(has_units(dump, form) for form in PLAIN_FORMS):

@@ -15,7 +15,7 @@ _BAD = re.compile(rb"[^\x00]")
 
 
 class DriveErrors(NamedTuple):
-    """A byte for each block of a dump, 1 where the drive was unsure of the sector; and the names of the files with
+    """A byte for each block of a dump, 1 if the drive reported an error in the sector; and the names of the files with
     these errors."""
 
     mask: bytes
@@ -26,12 +26,12 @@ class DriveErrors(NamedTuple):
         return self.mask.count(1)
 
     def within(self, first: int, end: int) -> int:
-        """How many blocks are doubtful from one up to another."""
+        """The number of doubtful blocks from one up to another."""
         return self.mask.count(1, first, end)
 
 
 def doubtful_units(path: str, unit: int, blocks: int, table: bytes | None) -> bytes:
-    """A byte for each unit of a file, 1 where one of its bytes, by a table, is not zero."""
+    """A byte for each unit of a file, 1 if one of its bytes, translated by a table, is not zero."""
     mask = bytearray(blocks)
     with open(path, "rb") as file:
         first = 0

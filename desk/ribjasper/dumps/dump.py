@@ -1,4 +1,4 @@
-"""A dump: a file of blocks in one of the forms, and its subcode as the library takes it."""
+"""A dump: a file of blocks in one of the forms, and its subcode in the form for the library."""
 import io
 import os
 import stat
@@ -8,7 +8,7 @@ from ..common.failures import Name, Refusal, cause
 from ..common.library import PACKS_A_BLOCK
 from .forms import Coding, Form, subcode
 
-# So many bytes are read at a time; only their subcode is kept.
+# The number of bytes that are read at a time; only their subcode is kept.
 READ_AT_ONCE = 1 << 23
 
 
@@ -31,7 +31,7 @@ class DumpFile:
         return max(0, self.size - self.skip)
 
     def units(self, form: Form) -> int:
-        """How many whole units the file has in this form."""
+        """The number of whole units in this form."""
         return self.content // form.unit
 
     def rest(self, form: Form) -> int:
@@ -48,7 +48,7 @@ class DumpFile:
             raise Refusal(self.path, cause(error)) from None
 
     def blocks(self, form: Form, first: int = 0, count: int | None = None) -> bytes:
-        """The subcode of units, blocks of 96 bytes: raw ones, or packs where the form has packs."""
+        """The subcode of units, blocks of 96 bytes: raw blocks, or packs if the form has packs."""
         left = self.units(form) - first if count is None else count
         if form.blocks(left) > library.MOST_BLOCKS:
             raise Refusal(self.path, f"has more than {library.MOST_BLOCKS} blocks")

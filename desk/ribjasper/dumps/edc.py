@@ -47,7 +47,7 @@ def tables() -> tuple[bytes, bytes, bytes, bytes]:
 
 
 def edc_codes(sectors: Sequence[bytes], layout: EdcLayout) -> list[bytes]:
-    """The four bytes of the code of each sector, worked out for all of them at once, column by column: the state is a
+    """The four bytes of the code of each sector, computed for all sectors at once, column by column: the state is a
     number that has the lowest bytes of all codes first, then the others."""
     content = b"".join(sector[layout.first : layout.end] for sector in sectors)
     length, many = layout.end - layout.first, len(sectors)
@@ -61,7 +61,7 @@ def edc_codes(sectors: Sequence[bytes], layout: EdcLayout) -> list[bytes]:
 
 
 def layout_of(sector: bytes) -> EdcLayout | None:
-    """Where a sector has its code; none in mode 0, whose bytes are zeros."""
+    """The place of the code in a sector; None in mode 0, whose bytes are zeros."""
     if sector[MODE] == 1:
         return MODE_1
     if sector[MODE] == 2:

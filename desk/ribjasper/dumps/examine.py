@@ -1,5 +1,5 @@
-"""What a report has on one dump: a row, a thumbnail of its first picture, a map of its damage and a list of damaged
-places."""
+"""What a report contains for one dump: a row, a thumbnail of its first picture, a map of its damage and a list of
+damaged places."""
 from typing import Any, Iterable, NamedTuple
 
 from ..common.failures import Failure, shown
@@ -22,17 +22,17 @@ COLUMNS = (
 )  # fmt: skip
 # The values of the column status.
 GOOD, DAMAGED, TORN, EMPTY, FOREIGN, UNREAD = "good", "damaged", "torn", "empty", "foreign", "unread"
-# A picture is complete when no pack of graphics comes for a second; else it is taken after ten.
+# A picture is complete if no graphics pack follows for a second, or otherwise after ten seconds.
 QUIET, LONGEST = 300, 3000
-# So many packs of graphics are drawn at most until a picture shows.
+# The greatest number of graphics packs that are drawn until a picture shows something.
 MOST_DRAWN = 30_000
 # The maximum number of places in a row; the list has all places.
 MOST_PLACES = 20
 
 
 class Examined(NamedTuple):
-    """A row by the names of its columns; two pictures, PNG files, where there are any; and a list of places, where
-    there is damage."""
+    """A row by the names of its columns; two pictures (PNG files), if there are any; and a list of places, if there is
+    damage."""
 
     row: ReportRow
     first_picture: bytes | None = None
@@ -49,7 +49,7 @@ def shows_something(picture: bytes) -> bool:
 
 
 def first_picture(parts: Iterable[bytes]) -> bytes | None:
-    """Red, green and blue of the first picture that shows something and stays for a second, of packs that come in
+    """Red, green and blue of the first picture that shows something and stays for a second, from packs in several
     parts."""
     drawn = waited = since = 0
     with Player() as player:
@@ -73,7 +73,7 @@ def first_picture(parts: Iterable[bytes]) -> bytes | None:
 
 
 def image_of(picture: bytes) -> Any:
-    """The picture of a player as one of Pillow."""
+    """The picture of a player as a Pillow image."""
     return package("PIL.Image", "python3-pil").frombytes("RGB", (WIDTH, HEIGHT), picture)
 
 
@@ -123,7 +123,7 @@ def with_sums(row: ReportRow, found: Sums) -> None:
 
 
 def examine(path: str, name: str, with_pictures: bool = True, words: DumpOptions = DumpOptions()) -> Examined:
-    """All that a report has on a file of any kind."""
+    """All that a report contains for a file of any kind."""
     row: ReportRow = dict.fromkeys(COLUMNS)
     row["file"] = name
     try:
@@ -147,6 +147,6 @@ def examine(path: str, name: str, with_pictures: bool = True, words: DumpOptions
 
 
 def why_no_picture(graphics: str) -> str:
-    """Why there is no first picture."""
+    """The reason why there is no first picture."""
     reasons = {"no": "no graphics", "not read": "graphics not read"}
     return reasons.get(graphics, "there is no picture: the screen has one colour")

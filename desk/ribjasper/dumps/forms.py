@@ -1,4 +1,4 @@
-"""The forms in which a file holds blocks, and the subcode of its units as the library takes it."""
+"""The forms in which a file stores blocks, and the subcode of its units in the form for the library."""
 import binascii
 import collections
 import ctypes
@@ -32,7 +32,7 @@ class Order(enum.Enum):
 
 
 class Form(NamedTuple):
-    """How a file holds blocks."""
+    """The way in which a file stores blocks."""
 
     name: str
     unit: int  # bytes of the file for each of its parts
@@ -68,7 +68,7 @@ class Form(NamedTuple):
         return self._replace(name=name, order=order)
 
 
-# In the order of the trials: each sixth unit of the form pq looks like channel Q of a planar block.
+# In the order of the trials: every sixth unit of the form pq resembles channel Q of a planar block.
 PLAIN_FORMS = (
     Form("raw", BLOCK, BLOCK, Coding.RAW),
     Form("pq", PQ, PQ, Coding.PQ),

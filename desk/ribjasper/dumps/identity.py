@@ -6,7 +6,7 @@ from ..common.library import BLOCK, GRAPHICS, PACK, RAW, SPREAD
 from .columns import busy
 from .loading import Loaded
 
-# So many blocks are turned into packs at a time.
+# The number of blocks that are converted to packs at a time.
 AT_ONCE = 10_000
 NOT_READ = "not read"
 
@@ -47,7 +47,7 @@ def corrected(blocks: bytes) -> bytes:
 
 
 def has_parity(loaded: Loaded) -> bool:
-    """Whether the packs of a file are words of the code, most of those that are not idle at least."""
+    """Whether the packs of a file are codewords: at least most of those that are not idle."""
     survey = loaded.survey
     words = sum(survey.total(name) for name in ("clean", "one", "two", "bad"))
     idle = busy(loaded.stream, PACK).count(0)
@@ -55,7 +55,7 @@ def has_parity(loaded: Loaded) -> bool:
 
 
 def graphics_of(loaded: Loaded) -> str:
-    """Whether a dump carries packs of graphics; or that it has no bit of R to W at all."""
+    """Whether a dump has graphics packs; or that it has no bit of R to W at all."""
     if not loaded.has_graphics_bits():
         return NOT_READ
     return yes(any(GRAPHICS in packs[::PACK] for packs in program_packs(loaded)))

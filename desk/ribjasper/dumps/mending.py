@@ -16,7 +16,7 @@ from .survey import has_graphics_bits
 
 # The number of blocks that are compared at a time.
 AT_ONCE = 1_000
-# So many packs in common decide whether two readings are of one disc.
+# The number of common packs that decides whether two readings are of one disc.
 ENOUGH = 2_000
 _PQ = bytes(byte & 0xC0 for byte in range(256))
 _NO_WORD = re.compile(bytes([library.NO_READING]) + b"+")
@@ -51,7 +51,7 @@ class Mended(NamedTuple):
 
 
 def zeros(size: int) -> mmap.mmap:
-    """At least one byte of zeros. A page uses no memory before it is written to."""
+    """At least one byte of zeros. A page of memory is not used before it is written."""
     if sys.platform == "win32":
         return mmap.mmap(-1, max(1, size))
     return mmap.mmap(-1, max(1, size), flags=mmap.MAP_PRIVATE | mmap.MAP_ANONYMOUS)

@@ -58,7 +58,7 @@ def with_one_shift(stretches: Sequence[Stretch]) -> list[Piece]:
 
 def chain_of(pieces: Sequence[Piece]) -> list[Piece]:
     """The heaviest sequence of pieces whose times increase in the order of the file. Pieces of another place, for
-    example stale subcode, drop out."""
+    example stale subcode, are left out."""
     heaviest = sorted(sorted(pieces, key=lambda it: it.weight, reverse=True)[:MOST_PIECES])
     chains: list[tuple[int, int]] = []  # the frames of the best chain up to a piece, and the piece before it
     for place, piece in enumerate(heaviest):

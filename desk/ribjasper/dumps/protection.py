@@ -10,8 +10,8 @@ CHECK = 2
 RELATIVE, ABSOLUTE = slice(3, 6), slice(7, 10)
 # The number of blocks from the first frame of a pair to the second.
 APART = 5
-# What LibCrypt turns in a check: most discs the first, some the second, in which one bit is wrong, as damage has it
-# too.
+# The bits that LibCrypt flips in a check: on most discs the first value, on some the second one, which has a single
+# wrong bit, like damage.
 CHECK_BITS, ONE_CHECK_BIT = 0x8001, 0x0080
 # FEWEST_ALIKE frames that differ from the right ones in the same way are no accident. Fewer than FEWEST_BITS bits are
 # damage.
@@ -88,7 +88,7 @@ def judged(frames: Iterable[BadFrame]) -> dict[int, Verdict]:
 
 
 def is_constant(frame: bytes) -> bool:
-    """Whether a drive gave one byte over and over."""
+    """Whether a drive returned one byte repeatedly."""
     return len(set(frame)) == 1
 
 

@@ -20,7 +20,7 @@ ISRC, CATALOGUE = re.compile(rb"[A-Z]{2}[A-Z0-9]{3}[0-9]{7}"), re.compile(rb"[0-
 
 
 class Vote(NamedTuple):
-    """The value that most frames have, how many have it, and how many there are."""
+    """The value that most frames have, the number of these frames, and the number of all frames."""
 
     value: bytes
     by: int
@@ -44,7 +44,7 @@ class QDisc(Disc):
 
 
 def changes(source: Source) -> Iterator[tuple[int, int, int]]:
-    """Where a track or an index is first met: the block, the track and the index."""
+    """The places at which a track or an index first occurs: the block, the track and the index."""
     tracks, indices = source.survey.column("track"), source.survey.column("index")
     last = None
     for stretch in source.stretches:
@@ -58,7 +58,7 @@ def changes(source: Source) -> Iterator[tuple[int, int, int]]:
 
 
 def index_starts(source: Source) -> dict[int, dict[int, tuple[int, int]]]:
-    """For each track the indices that are met, each with its first block and the absolute time."""
+    """The indexes of each track that occur, each with its first block and its absolute time."""
     found: dict[int, dict[int, tuple[int, int]]] = {}
     for block, track, index in changes(source):
         time = source.survey.absolute(block)
@@ -69,7 +69,7 @@ def index_starts(source: Source) -> dict[int, dict[int, tuple[int, int]]]:
 
 
 def first_index(source: Source, known: dict[int, tuple[int, int]]) -> int | None:
-    """The time of a track's index 01: frames of the track count from it, in its pause down to it."""
+    """The time of a track's index 01: frames of the track count from it, and frames in its pause count down to it."""
     for index, (block, time) in sorted(known.items(), reverse=True):
         frame = source.frame(block)
         if frame is not None:
@@ -122,8 +122,8 @@ def owner_of(frame: QFrame | None, before: Hidden, behind: Hidden) -> Hidden | N
 
 
 def pause(source: Source, known: tuple[int, int], first: int, start: Start) -> Start:
-    """Where the pause of a track begins. If the frames right before name no time, P is set from there on, if the pause
-    is two seconds long at least; a shorter pause has P before it too."""
+    """The beginning of the pause of a track. If the frames right before it have no time, it begins where P is set,
+    provided that the pause has at least two seconds; for a shorter pause, P is set before it too."""
     block, time = known
     back = 0
     while (

@@ -1,5 +1,5 @@
-"""Bad Q frames between good ones, where only one frame is possible; frames that were changed by design; and what is
-wrong with P and with the order of tracks and indexes."""
+"""Bad Q frames between good ones, if only one frame is possible; frames that were changed by design; and errors in P
+and in the order of tracks and indexes."""
 import ctypes
 from typing import Iterator, NamedTuple
 
@@ -30,8 +30,8 @@ MAY_BE_CHANGED = "may have been changed by design, as LibCrypt changes frames, b
 
 
 class Gap(NamedTuple):
-    """Neighbouring blocks whose Q is bad, the good frames before and behind, and the frames that time and track
-    leave."""
+    """Neighbouring blocks whose Q is bad, the good frames before and after them, and the frames that time and track
+    allow."""
 
     run: Run
     frames: list[QFrame]
@@ -114,8 +114,8 @@ class Fixed(NamedTuple):
 
 
 class KnownFrames(NamedTuple):
-    """What is known of bad frames before they are filled in: the codes of the disc, and by their blocks what each bad
-    frame is, and those that differ from the right ones as others do."""
+    """The facts about bad frames before they are restored: the codes of the disc; by block, the verdict on each bad
+    frame; and the frames that differ from the right ones as others do."""
 
     coded: list[tuple[int, dict[int, bytes]]]
     verdicts: dict[int, Verdict]
@@ -238,7 +238,7 @@ def p_rows(source: Source) -> Iterator[Finding]:
 
 
 def samples(source: Source) -> list[int]:
-    """Blocks right before a track's music, where P is set if it is anywhere."""
+    """Blocks directly before the music of a track, where P is set if it is set anywhere."""
     tracks, indices = source.survey.column("track"), source.survey.column("index")
     found = []
     for stretch in source.stretches:

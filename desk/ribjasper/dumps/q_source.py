@@ -9,7 +9,7 @@ from .loading import Loaded
 from .pieces import pieces_of
 from .survey import Clock, Stretch
 
-# A code belongs to the track that has frames so near on both sides of it.
+# A code belongs to the track that has frames within this distance on both sides.
 NEAR = 4
 
 
@@ -20,7 +20,7 @@ class Source:
         self.stream, self.survey = loaded.stream, loaded.survey
         self.clock = Clock(loaded.survey)
         self.pieces = pieces_of(self.clock.stretches)
-        # Frames of another place count for nothing.
+        # Frames of another place do not count.
         self.stretches = [it for it in self.clock.stretches if self.is_in_order(it)]
 
     def is_in_order(self, stretch: Stretch) -> bool:
@@ -64,15 +64,15 @@ class Source:
         return found
 
     def origin(self) -> int:
-        """The block at which the audio of the file begins: that of the absolute time 00:02:00, or the first of the
-        program where the file begins later."""
+        """The block at which the audio of the file begins: that of the absolute time 00:02:00, or the first one of the
+        program if the file begins later."""
         first = self.pieces[0]
         return max(self.survey.first, PAUSE - first.shift) if first.shift < PAUSE else self.survey.first
 
     def in_file(self, time: int) -> int:
-        """The time of the file, in blocks from where its audio begins."""
+        """The time of the file, in blocks from the beginning of its audio."""
         return max(0, self.block_of(time) - self.origin())
 
     def end_in_file(self, time: int) -> int:
-        """The time of the file at which what comes before an absolute time ends."""
+        """The time of the file at which everything before an absolute time ends."""
         return max(0, self.end_at(time) - self.origin())

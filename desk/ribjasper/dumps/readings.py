@@ -9,7 +9,7 @@ from .pieces import Piece
 from .columns import Run
 from .survey import has_graphics_bits
 
-# So many blocks are read at a time.
+# The number of blocks that are read at a time.
 AT_ONCE = 1 << 13
 _NOTHING = bytes(BLOCK)
 

@@ -15,9 +15,9 @@ NUMBERS = {
     "q-good": "good Q", "blocks": "blocks", "bad": "lost words", "q-bad": "bad Q", "empty": "empty", "runs": "runs",
     "jumps": "jumps",
 }  # fmt: skip
-# A longer text is folded away; a name of a file is never cut.
+# A longer text is folded; a file name is never cut.
 LONGEST_TEXT = 160
-# So many lines of texts are on the page; the tables have all.
+# The number of lines of texts on the page; the tables have all lines.
 MOST_TEXTS = 12
 
 
@@ -32,7 +32,7 @@ def link(name: str, inside: str) -> str:
 
 
 def picture_cell(row: ReportRow, out: Path, name: str) -> str:
-    """The first picture of a dump, or why there is none."""
+    """The first picture of a dump, or the reason why there is none."""
     if (out / name).exists():
         said = escaped(f"first picture of {row['file']}")
         return link(name, f'<img class="first" loading="lazy" src="{quote(name)}" alt="{said}">')
@@ -56,7 +56,7 @@ def numbers(row: ReportRow) -> str:
 
 
 def folded(text: str, kind: str) -> str:
-    """A text in its own lines, or folded away if it is long."""
+    """A text in its own lines, or folded if it is long."""
     if not text:
         return ""
     inside = f'<div class="{kind}">{escaped(text)}</div>'

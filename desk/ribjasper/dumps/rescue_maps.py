@@ -60,8 +60,8 @@ def unread_bytes(found: Sequence[Area], size: int) -> Iterator[tuple[int, int]]:
 
 
 def domain(size: int, lost: Sequence[tuple[int, int]], kind: str) -> bytes:
-    """A map of a file with which ddrescue reads again what was lost, and nothing else (its option -m): `+` is what is
-    to be read again, from the first byte up to the end, and `-` all other."""
+    """A map of a file with which ddrescue reads the lost parts again, and nothing else (its option -m): `+` is what it
+    reads, from the first byte up to the end, and `-` everything else."""
     lines = [f"# Mapfile of the mended {kind}. Made by ribjasper-desk", "# current_pos  current_status  current_pass"]
     lines += ["0x00000000     +               1", "#      pos        size  status"]
     at = 0

@@ -21,7 +21,7 @@ MOST_OF_LEAD_IN, MOST_OF_LEAD_OUT = 20_000, 500
 # The blocks from a lead-out to the music of the next session: the lead-out of the first session or of a later one, the
 # next lead-in, and a pause.
 FIRST_GAP, LATER_GAP = 6750 + 4500 + 150, 2250 + 4500 + 150
-# Where a lead-out's beginning is known from.
+# The sources of the beginning of a lead-out.
 BY_CONTENTS, BY_FRAMES, BY_FILE, BY_GAP, BY_END = "contents", "lead-out", "file", "gap", "end"
 
 
@@ -66,7 +66,7 @@ def bcd(byte: int) -> int | None:
 
 
 def lead_out_of(frame: QFrame) -> int | None:
-    """Where the lead-out of this frame begins: the frame's absolute time less its time in the lead-out."""
+    """The beginning of the lead-out of this frame: the absolute time of the frame minus its time in the lead-out."""
     rest = bytes(frame.text)
     if frame.kind != library.Q_OTHER or frame.mode != POSITION or rest[0] != LEAD_OUT_TRACK:
         return None
@@ -80,7 +80,7 @@ def lead_out_of(frame: QFrame) -> int | None:
 
 
 def zones_of(blocks: Iterator[int], is_lead_in: bool) -> list[Zone]:
-    """Blocks in turn as zones."""
+    """Blocks, one after another, as zones."""
 
     def near(before: tuple[int, int, int], behind: tuple[int, int, int]) -> tuple[int, int, int] | None:
         return (before[0], behind[1], before[2] + behind[2]) if behind[0] - before[1] <= APART else None
@@ -105,7 +105,7 @@ def is_lead_out(source: Source, block: int) -> bool:
 
 
 def contents_of(source: Source, blocks: range) -> Contents:
-    """The table of contents in these blocks, as most of its frames have it."""
+    """The table of contents in these blocks, from most of its frames."""
     counted: dict[int, collections.Counter[tuple[int, int]]] = {}
     frames: dict[tuple[int, int, int], QFrame] = {}
     for block in blocks[:MOST_OF_LEAD_IN]:
@@ -121,7 +121,7 @@ def contents_of(source: Source, blocks: range) -> Contents:
 
 
 def lead_out_by_frames(source: Source, zone: Zone) -> int | None:
-    """Where a lead-out begins, by most of its frames."""
+    """The beginning of a lead-out, from most of its frames."""
     counted = collections.Counter[int]()
     for block in range(zone.first, zone.last + 1)[:MOST_OF_LEAD_OUT]:
         if (frame := source.frame(block)) is not None and (time := lead_out_of(frame)) is not None:
@@ -195,7 +195,7 @@ def numbers_of(
 def sessions_of(
     layout: Layout, numbers: Mapping[int, int], begins: Mapping[int, int], end: int, companions: Companions | None
 ) -> list[Session]:
-    """The sessions of tracks whose session and beginning are known, of a dump whose program ends at a time."""
+    """The sessions of tracks whose session and beginning are known, in a dump whose program ends at a time."""
     found = []
     of = sorted(set(numbers.values()))
     for place, session in enumerate(of):
@@ -209,7 +209,7 @@ def sessions_of(
 def lead_out_time(
     layout: Layout, session: int, following: int | None, end: int, companions: Companions | None
 ) -> tuple[int, str]:
-    """Where the lead-out of a session begins, and how that is known."""
+    """The beginning of the lead-out of a session, and its source."""
     own = layout.borders[session - 1].contents if session <= len(layout.parts) else Contents({}, None)
     if own.end is not None and (following is None or own.end <= following):
         return own.end, BY_CONTENTS

@@ -1,4 +1,4 @@
-"""A stream or a `.cdg` file that is to be shown: where its audio begins, and the picture at each time."""
+"""A stream or a `.cdg` file that is shown: the beginning of its audio, and the picture at each time."""
 from dataclasses import dataclass
 from pathlib import Path
 from typing import Iterator
@@ -34,7 +34,7 @@ class Stream:
         return BLOCKS_A_SECOND * (PACKS_A_BLOCK if self.is_packs() else 1)
 
     def seconds(self) -> float:
-        """How long it is from the beginning of the audio on."""
+        """Its length in seconds, from the beginning of the audio on."""
         return max(0, self.units - self.begin) / self.a_second()
 
     def frames(self, rate: int, count: int) -> Iterator[bytes]:
@@ -53,8 +53,8 @@ class Stream:
 
 
 def open_stream(path: Path) -> Stream:
-    """A raw stream, an image of sectors, or a `.cdg` file, by what is in it. A stream that begins with the audio, as
-    that of an image does, has no pause."""
+    """A raw stream, an image of sectors, or a `.cdg` file, depending on its content. A stream that begins with the
+    audio, as in an image, has no pause."""
     dump = DumpFile(path)
     found, _ = form_of(dump)
     if found is None:

@@ -43,7 +43,7 @@ class SubmittedSession(NamedTuple):
 
 
 class ChangedFrame(NamedTuple):
-    """A frame that was changed by design: its time and address, its bytes, and what differs in the right check."""
+    """A frame that was changed by design: its time and address, its bytes, and the difference of its check."""
 
     time: str
     lba: int
@@ -67,7 +67,7 @@ class Submission:
     notes: list[str] = field(default_factory=list)
 
     def plain(self) -> dict[str, Any]:
-        """As JSON has it."""
+        """The data for JSON."""
         found = dataclasses.asdict(self)
         found["sessions"] = [it._asdict() for it in self.sessions]
         found["tracks"] = [it._asdict() for it in self.tracks]
@@ -150,7 +150,7 @@ def submitted_track(track: Track, end: int, hashed: cutting.Hashed | None) -> Su
 
 
 def ends_of(found: QDisc) -> Iterator[int]:
-    """Where each track ends: where the next one of its session begins, or at the lead-out."""
+    """The end of each track: the beginning of the next one in its session, or the lead-out."""
     lead_outs = {session.number: session.lead_out for session in found.sessions}
     for track, behind in zip(found.tracks, [*found.tracks[1:], None]):
         is_last = behind is None or behind.session != track.session
@@ -158,7 +158,7 @@ def ends_of(found: QDisc) -> Iterator[int]:
 
 
 def submission(loaded: Loaded, name: str, offset: int = 0) -> Submission:
-    """All that a database asks for of a disc."""
+    """All data that a database requests about a disc."""
     if loaded.form.library != RAW or not loaded.survey.has_q:
         raise Refusal(loaded.path, "has no Q channel, which describes the disc")
     source = Source(loaded)
@@ -192,7 +192,7 @@ def submission(loaded: Loaded, name: str, offset: int = 0) -> Submission:
 
 
 def submission_text(found: Submission) -> str:
-    """As a text that can be pasted into a form."""
+    """The data as a text that can be pasted into a form."""
     lines = [
         f"File: {found.file}",
         f"Form: {found.form}, {found.sectors} sectors, lead-in {found.lead_in}",

@@ -31,7 +31,7 @@ _BAD_Q = bytes(1 if value in (library.Q_BAD_FIELD, library.Q_BAD_CHECK) else 0 f
 
 
 class Stretch(NamedTuple):
-    """Blocks whose absolute times go on by one: the first and the last, and the time of the first."""
+    """Blocks with consecutive absolute times: the first and the last, and the time of the first."""
 
     first: int
     last: int
@@ -113,11 +113,11 @@ class Survey:
 
     @property
     def read(self) -> int:
-        """How many blocks there are from the first that was read to the last."""
+        """The number of blocks from the first one that was read to the last one."""
         return self.end - self.first
 
     def unread_column(self) -> bytes:
-        """A byte for each block, 1 where it is unread."""
+        """A byte for each block, 1 if it is unread."""
         return b"\1" * self.first + bytes(self.read) + b"\1" * (self.blocks - self.end)
 
     def unread(self) -> list[Run]:
@@ -139,12 +139,12 @@ class Survey:
 
     @functools.cached_property
     def bad_frames(self) -> bytes:
-        """A byte for each block, 1 where its Q frame is bad; none is where Q was not read at all."""
+        """A byte for each block, 1 if its Q frame is bad; no block is bad if Q was not read at all."""
         return self.column("q").translate(_BAD_Q) if self.has_q else bytes(self.blocks)
 
     @functools.cached_property
     def empty(self) -> bytes:
-        """A byte for each block, 1 where all of it is zero; idle packs without Q are no sign of damage."""
+        """A byte for each block, 1 if all its bytes are zero; idle packs without Q are no sign of damage."""
         return self.column("empty") if self.has_q else bytes(self.blocks)
 
     def corrected(self, run: Run) -> int:
@@ -154,7 +154,7 @@ class Survey:
         return sum(self.column(name)[run.first : run.last + 1])
 
     def stretches(self) -> list[Stretch]:
-        """The blocks whose times are known, in stretches that go on by one."""
+        """The blocks whose times are known, in runs of consecutive times."""
         return list(self._stretches)
 
     @functools.cached_property
@@ -173,7 +173,7 @@ class Survey:
         and above 1 if no time is known."""
         if not self.blocks:
             return b""
-        # Times have three bytes, and the highest of four is free for what is carried.
+        # Times have three bytes, so the highest of four is free for the carry.
         lanes = bytearray(4 * self.blocks)
         for place in range(3):
             lanes[place::4] = self.rows[place::ROW]
@@ -186,7 +186,7 @@ class Survey:
 
 
 class Clock:
-    """Absolute times and tracks of blocks, also of those whose own frame has none."""
+    """The absolute times and tracks of blocks, including those whose own frame has none."""
 
     def __init__(self, survey: Survey):
         self.survey = survey
@@ -194,7 +194,7 @@ class Clock:
         self.starts = [stretch.first for stretch in self.stretches]
 
     def stretch(self, block: int) -> Stretch | None:
-        """The stretch that a block is in or comes after, else the first one."""
+        """The run that contains or precedes a block, or otherwise the first one."""
         place = bisect.bisect_right(self.starts, block) - 1
         return self.stretches[max(place, 0)] if self.stretches else None
 

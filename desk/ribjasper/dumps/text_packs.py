@@ -29,7 +29,7 @@ NAMES = {
 # The places of a pack: its kind, its track, its number, its language with the position in the text, and its text.
 KIND, TRACK, NUMBER, WHERE, TEXT = 0, 1, 2, 3, slice(4, 16)
 TEXT_BYTES = 12
-# Of the size packs of a language: the character code, and the languages of all eight.
+# In the size packs of a language: the places of the character code, and of the languages of all eight.
 CODE, LANGUAGES = 0, 28
 CODES = {0x00: "latin-1", 0x01: "ascii", 0x80: "cp932"}
 CODE_NAMES = {"latin-1": "Latin-1", "ascii": "ASCII", "cp932": "MS-JIS"}
@@ -70,13 +70,13 @@ class Language:
 
     @property
     def sizes(self) -> bytes:
-        """The text bytes of the three size packs, or nothing where one is not there."""
+        """The text bytes of the three size packs, or nothing if one is missing."""
         found = {pack[TRACK]: pack[TEXT] for pack in self.of(SIZE)}
         return b"".join(found[number] for number in range(3)) if set(found) >= {0, 1, 2} else b""
 
     @property
     def code(self) -> str | None:
-        """The name by which Python knows the character code; Latin-1 if there is no size pack."""
+        """The name of the character code in Python; Latin-1 if there is no size pack."""
         return CODES.get(self.sizes[CODE]) if self.sizes else "latin-1"
 
     @property
@@ -87,7 +87,7 @@ class Language:
 
 
 def languages_of(packs: Iterable[bytes]) -> list[Language]:
-    """Packs whose checks match by their languages, each in the order of the numbers."""
+    """The packs with right checks, by their languages, each sorted by number."""
     found: dict[int, Language] = {}
     for pack in packs:
         number = pack[WHERE] >> 4 & 7
@@ -178,7 +178,7 @@ TIMES = 3
 
 
 def text_packs_in(lead_in_blocks: bytes) -> list[bytes]:
-    """The packs of a lead-in whose checks match, the first of each number, in order."""
+    """The packs of a lead-in with right checks, the first one for each number, sorted."""
     found: dict[tuple[int, int], bytes] = {}
     room = ctypes.create_string_buffer(TEXT_PACK * PACKS_A_BLOCK)
     read, matches = library.call("ribjasper_block_text_packs"), library.call("ribjasper_text_pack_matches")

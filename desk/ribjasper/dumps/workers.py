@@ -50,7 +50,7 @@ def lost_row(name: str, why: str) -> Examined:
 
 
 def end_with_parent() -> None:
-    """A worker ends with the run that started it, and leaves Ctrl-C and the terminal to it."""
+    """Lets a worker end with the run that started it, and leaves Ctrl-C and the terminal to that run."""
     turn_off()
     for number in STOPS:
         signal.signal(number, signal.SIG_IGN if number == signal.SIGINT else signal.SIG_DFL)
@@ -64,7 +64,7 @@ def processors() -> int:
 
 
 def pool_of(count: int) -> ProcessPoolExecutor:
-    # Windows has no fork, and on macOS libraries of the system do not survive it.
+    # Windows has no fork, and on macOS libraries of the system crash after it.
     how = "fork" if sys.platform == "linux" else "spawn"
     return ProcessPoolExecutor(count, mp_context=multiprocessing.get_context(how), initializer=end_with_parent)
 
@@ -105,7 +105,7 @@ def in_pool(waiting: collections.deque[FileTask], how: How, count: int) -> Gener
 
 
 def look_alone(task: FileTask, how: How) -> Examined:
-    """Looks at a file in a process of its own."""
+    """Examines a file in its own process."""
     with pool_of(1) as pool:
         try:
             return pool.submit(examine_task, task, how).result()
@@ -115,7 +115,7 @@ def look_alone(task: FileTask, how: How) -> Examined:
 
 
 def finder(distributed: Any, folder: str) -> Any:
-    """Prepares each worker: it learns where the desk is."""
+    """Prepares each worker by telling it the path of the desk."""
 
     class Finder(distributed.WorkerPlugin):  # type: ignore[misc]
         def setup(self, worker: Any) -> None:
@@ -125,9 +125,9 @@ def finder(distributed: Any, folder: str) -> Any:
 
 
 def by_cluster(tasks: Sequence[FileTask], how: How, address: str) -> Iterator[Examined]:
-    """Looks at files on the workers of a scheduler, which see the same files and the same checkout."""
+    """Examines files on the workers of a scheduler, which see the same files and the same checkout."""
     distributed = package("distributed", "python3-distributed")
-    # What its own tasks leave behind when they are cut off at the end is nothing that a user can act on.
+    # Messages about tasks that are cut off at the end do not help a user.
     sys.unraisablehook = lambda _: None
     # Errors are reported in a line of our own.
     logging.disable(logging.CRITICAL)

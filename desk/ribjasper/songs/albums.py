@@ -37,7 +37,7 @@ style = "night"
 # Seconds of silence between the tracks.
 gap = 2
 """
-NEW_TRACK = """
+NEW_TRACK ="""
 [[track]]
 lyrics = {lyrics}
 sound = {sound}
@@ -46,7 +46,7 @@ singer = {singer}
 # picture = "title.png"
 # isrc = "GBAAA2600001"
 """
-NEW_PAIR = """
+NEW_PAIR ="""
 [[track]]
 pair = {pair}
 title = {title}
@@ -56,13 +56,13 @@ singer = ""
 CODE = re.compile(r"[A-Z]{2}[A-Z0-9]{3}\d{7}", re.ASCII)
 CATALOGUE = re.compile(r"\d{13}", re.ASCII)
 PACKS_A_SECOND = PACKS_A_BLOCK * BLOCKS_A_SECOND
-# A disc of 80 minutes, behind its first pause; and the longest sound that a list may ask for, in seconds.
+# A disc of 80 minutes, without its first pause; and the longest sound that a list may request, in seconds.
 CAPACITY = BLOCKS_A_SECOND * (79 * 60 + 57)
 LONGEST = 6000.0
 
 
 def quoted(word: str) -> str:
-    """A text as TOML spells it."""
+    """A text in the syntax of TOML."""
     marks = {'"': '\\"', "\\": "\\\\"}
     spelled = (
         marks.get(letter, letter if ord(letter) >= 32 and ord(letter) != 127 else f"\\u{ord(letter):04X}")
@@ -83,8 +83,8 @@ def entry_of(lyrics: Path, sound: Path, song: Song, folder: Path) -> str:
 
 @dataclass
 class ListedTrack:
-    """A song of the list: its lyrics and its sound, or a finished pair; its texts; how it looks, and what is done with
-    its sound."""
+    """A song of the list: its lyrics and its sound, or a finished pair; its texts; its look, and the treatment of its
+    sound."""
 
     lyrics: Path
     sound: Path | None
@@ -110,7 +110,7 @@ class Album:
 
 @dataclass
 class Ready:
-    """A track whose sound is ready, and its blocks; of a pair also its packs."""
+    """A track whose sound is ready, and its blocks; for a pair also its packs."""
 
     track: ListedTrack
     sound: Path
@@ -139,7 +139,7 @@ def read_album(path: Path) -> Album:
     try:
         table = read_table(path)
     except Refusal:
-        # What is no regular file cannot be read twice.
+        # Only regular files can be read twice.
         if path.is_file():
             check_list(path, read_file(path))
         raise
@@ -175,7 +175,7 @@ def style_file(beside: Path, style: str) -> str:
 
 
 def looks(table: TomlTable) -> dict[str, Any]:
-    """The wishes that a list or a track has."""
+    """The options for the look in a list or a track."""
     found: dict[str, Any] = {
         "sweep": table.take("sweep", bool, "true or false"),
         "lead": table.number("lead", 0, 60, float),
@@ -189,7 +189,7 @@ def looks(table: TomlTable) -> dict[str, Any]:
 
 
 def between_of(table: TomlTable) -> tuple[str, ...]:
-    """The pictures, by their whole paths, and colours that are shown in rests."""
+    """The pictures, by their whole paths, and the colours that are shown in rests."""
     words = table.take("between", (str, list), "a picture or a colour, or a list of them") or []
     words = [words] if isinstance(words, str) else words
     if not all(isinstance(word, str) for word in words):
@@ -225,7 +225,7 @@ def read_track(table: TomlTable, number: int, common: Wishes, loudness: float | 
 
 
 def made_ready(track: ListedTrack) -> Ready:
-    """A track with its sound as the disc has it."""
+    """A track with its sound in the form for the disc."""
     if not track.is_pair:
         assert track.sound
         sound = audio.treated(track.sound, track.treatment)
@@ -248,7 +248,7 @@ def made_ready(track: ListedTrack) -> Ready:
 
 
 def length_of(album: Album, blocks: list[int]) -> int:
-    """The blocks of the disc behind its first pause."""
+    """The number of blocks of the disc after its first pause."""
     return sum(blocks) + album.gap * (len(blocks) - 1)
 
 
@@ -265,7 +265,7 @@ def check_capacity(album: Album, ready: list[Ready], capacity: int | None) -> No
 
 
 def sing(album: Album, ready: Ready) -> Sung:
-    """The script and the packs of a track."""
+    """Makes the script and the packs of a track."""
     track = ready.track
     if ready.blocks < SHORTEST_TRACK:
         tell(f"{track.sound or track.lyrics}: is shorter than four seconds; burners may refuse it")
@@ -285,7 +285,7 @@ def sing(album: Album, ready: Ready) -> Sung:
 
 
 def sing_one(lyrics: Path, sound: Path, wishes: Wishes) -> tuple[Album, Sung]:
-    """A single song, as an album with one track."""
+    """Makes a single song, as an album with one track."""
     track = ListedTrack(lyrics, sound, "", "", "", wishes, Treatment(intro=wishes.intro))
     album = Album(lyrics, "", "", "", 0, [track])
     ready = made_ready(track)
@@ -294,7 +294,7 @@ def sing_one(lyrics: Path, sound: Path, wishes: Wishes) -> tuple[Album, Sung]:
 
 
 def sing_all(album: Album, ready: list[Ready]) -> list[Sung]:
-    """All tracks; if one of them moves the screen, each begins by undoing that."""
+    """Makes all tracks; if one of them scrolls the screen, each track begins by undoing that."""
     sung = [sing(album, one) for one in progress(ready, len(ready), "songs")]
     if any(moves(one.packs) for one in ready):
         for track in sung:
@@ -329,7 +329,7 @@ def write_disc(album: Album, sung: list[Sung], outputs: Outputs, names: list[str
 
 
 def joined_packs(album: Album, sung: list[Sung]) -> bytes:
-    """The packs of all tracks; between them none."""
+    """The packs of all tracks, with none between them."""
     return bytes(PACK * PACKS_A_BLOCK * album.gap).join(one.packs for one in sung)
 
 

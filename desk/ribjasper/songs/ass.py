@@ -8,10 +8,10 @@ FORMAT = re.compile(r"\s*Format\s*:\s*", re.IGNORECASE)
 CLOCK = re.compile(r"(\d{1,6}):(\d{1,6}):(\d{1,6})[.:](\d{1,6})$")
 OVERRIDE = re.compile(r"\{([^}]*)\}")
 KARAOKE = re.compile(r"\\[kK][fot]?(\d{1,9}(?:\.\d{1,9})?)")
-# From here on the text of an event is a drawing, or letters again (0).
+# After this tag, the text of an event is a drawing, or letters again (0).
 DRAWING = re.compile(r"\\p(\d{1,9})")
 FIELDS = "Layer,Start,End,Style,Name,MarginL,MarginR,MarginV,Effect,Text"
-# The effects of Aegisub's templater: the lyrics that it reads, and the events that it makes of them.
+# The effects of Aegisub's templater: the lyrics that it reads, and the events that it makes from them.
 SUNG_EFFECT, MADE_EFFECT = "karaoke", "fx"
 
 
@@ -22,7 +22,7 @@ class Event:
         self.number, self.values, self.is_comment = number, values, is_comment
 
     def singer(self) -> str:
-        """Who sings it, if it has a name; else its style."""
+        """The singer, from the name of the event, or else its style."""
         return self.values.get("Name", self.values.get("Actor", "")).strip()
 
     def style(self) -> str:
@@ -33,7 +33,7 @@ class Event:
 
 
 def read_ass(text: str, song: Song) -> None:
-    """`\\N` begins a new line; drawings and what styles look like are ignored, and names or styles are the
+    """`\\N` begins a new line; drawings and the appearance of styles are ignored, and names or styles become the
     voices."""
     section, fields, found = "", FIELDS.split(","), list[Event]()
     for number, line in enumerate(text.splitlines(), 1):
@@ -56,8 +56,8 @@ def read_ass(text: str, song: Song) -> None:
 
 
 def sung_of(events: list[Event]) -> list[Event]:
-    """The events that hold the lyrics: those with the effect `karaoke`, if there are any, which the templater
-    turns into comments; else all dialogue but the templater's own."""
+    """The events with the lyrics: those with the effect `karaoke`, if there are any, which the templater turns into
+    comments; otherwise all dialogue except the templater's own."""
     karaoke = [event for event in events if event.effect() == SUNG_EFFECT]
     dialogue = [event for event in events if not event.is_comment]
     plain = [event for event in dialogue if event.effect() != MADE_EFFECT]
@@ -73,7 +73,7 @@ def ass_time(value: str, song: Song, number: int) -> float:
 
 
 def add_event(song: Song, event: Event, name: str) -> None:
-    """The lines of one event, none where it has no text."""
+    """The lines of one event, none if it has no text."""
     missing = [field for field in ("Start", "End", "Text") if field not in event.values]
     for field in missing:
         song.fault(event.number, f"the event has no field {field}")
@@ -83,7 +83,7 @@ def add_event(song: Song, event: Event, name: str) -> None:
     start, end = (ass_time(event.values[field], song, event.number) for field in ("Start", "End"))
     lines: list[list[Syllable]] = [[]]
     for part, sung, until in event_pieces(text, start, end):
-        # The templater's readings of a sign follow a bar.
+        # The templater's readings of a character follow a bar.
         shown = part.partition("|")[0] if event.effect() == SUNG_EFFECT else part
         first, *others = re.split(r"\\[Nn]", shown.replace(r"\h", " "))
         lines[-1].append(Syllable(first, sung, until))
@@ -98,10 +98,10 @@ def add_event(song: Song, event: Event, name: str) -> None:
 
 
 def event_pieces(text: str, start: float, end: float) -> list[tuple[str, float, float]]:
-    """The pieces of an event between its overrides, each with the time at which it is sung; drawings are none."""
+    """The pieces of an event between its overrides, each with the time at which it is sung; drawings are left out."""
     parts: list[tuple[str, float, float]] = []
     at, sung, until, is_drawing = 0, start, start, False
-    # Behind the last brace that closes there is no override: an open one is not looked for at each brace.
+    # After the last closing brace there is no override, so an open one is not searched at each brace.
     for override in OVERRIDE.finditer(text, 0, text.rfind("}") + 1):
         parts.append(("" if is_drawing else text[at : override.start()], sung, until))
         for drawing in DRAWING.findall(override[1]):

@@ -1,4 +1,4 @@
-"""The sound of a disc: 44,100 Hz, stereo, 16 bits, of WAV files as they are and of others by ffmpeg."""
+"""The sound of a disc: 44,100 Hz, stereo, 16 bits, from WAV files unchanged and from others with ffmpeg."""
 import array
 import atexit
 import functools
@@ -30,16 +30,16 @@ ENDINGS = (".wav", ".flac", ".mp3", ".ogg", ".opus", ".m4a", ".aiff", ".aif")
 DISC_FORM = ["-vn", "-ar", str(RATE), "-ac", str(CHANNELS), "-c:a", "pcm_s16le"]
 
 
-# Loudness as ffmpeg's filter knows it: the range of targets in LUFS, and the highest peak in dB.
+# The limits of ffmpeg's filter for loudness: the range of targets in LUFS, and the highest peak in dB.
 QUIETEST, LOUDEST, HIGHEST_PEAK = -70.0, -5.0, -1.5
 JSON = re.compile(rb"\{[^{}]*\}")
-# What a sound is multiplied with is counted in parts of this.
+# Factors for samples are counted in parts of this.
 WHOLE = 1 << 15
 
 
 class Treatment(NamedTuple):
-    """What is done with a sound before it is used: from and to which second it is taken, its loudness in LUFS, seconds
-    over which it comes and goes, and seconds of silence in front."""
+    """The treatment of a sound before it is used: the seconds at which it begins and ends, its loudness in LUFS, the
+    seconds over which it fades in and out, and seconds of silence in front."""
 
     begin: float = 0.0
     end: float | None = None
@@ -50,12 +50,12 @@ class Treatment(NamedTuple):
 
     @property
     def later(self) -> float:
-        """By how much everything in the sound is later than in its file."""
+        """The delay of everything in the sound relative to its file."""
         return self.intro - self.begin
 
 
 class Wave(NamedTuple):
-    """The header of a WAV file, and where its samples are."""
+    """The header of a WAV file, and the place of its samples."""
 
     form: int
     channels: int
@@ -73,7 +73,7 @@ class Wave(NamedTuple):
 
 
 def read_wave(file: BinaryIO, path: Path) -> Wave | None:
-    """The header of a WAV file; nothing where it is another file. One that ends before its samples do is refused."""
+    """The header of a WAV file, or None for any other file. A file that ends before its samples do is refused."""
     if file.read(4) != b"RIFF" or file.read(8)[4:] != b"WAVE":
         return None
     end = os.fstat(file.fileno()).st_size
@@ -101,7 +101,7 @@ def read_wave(file: BinaryIO, path: Path) -> Wave | None:
 
 
 def whole_size(start: int, size: int, end: int, a_second: int, path: Path) -> int:
-    """How many bytes the samples have, or a refusal where some of them are not there."""
+    """The number of bytes of the samples; a missing part is refused."""
     there = end - start
     if size in UNKNOWN:
         return there
@@ -112,7 +112,7 @@ def whole_size(start: int, size: int, end: int, a_second: int, path: Path) -> in
 
 
 def remedy(path: Path) -> str:
-    """The line that makes a file of the form of a disc."""
+    """The command that makes a file in the form for a disc."""
     return f"`ffmpeg -i {shown(os.fspath(path))} {' '.join(DISC_FORM)} OUT.wav`"
 
 
@@ -123,8 +123,8 @@ def wave_of(path: Path) -> Wave | None:
 
 @functools.lru_cache(maxsize=None)
 def of_disc(path: Path) -> tuple[Path, Wave]:
-    """A WAV file whose samples a disc can hold as they are: this one, or one that ffmpeg makes of it for as long as the
-    desk runs."""
+    """A WAV file whose samples fit onto a disc unchanged: this file, or one that ffmpeg makes from it and that exists
+    while the desk runs."""
     wave = wave_of(path)
     if wave and wave.is_of_disc:
         return path, wave
@@ -152,19 +152,19 @@ def of_disc(path: Path) -> tuple[Path, Wave]:
 
 @functools.lru_cache(maxsize=None)
 def folder() -> str:
-    """Where converted sounds are while the desk runs."""
+    """The folder of converted sounds, which exists while the desk runs."""
     name = tempfile.mkdtemp(prefix="ribjasper-sound-")
     atexit.register(shutil.rmtree, name, ignore_errors=True)
     return name
 
 
 def frames(path: Path) -> int:
-    """How many samples of both channels there are."""
+    """The number of samples of each channel."""
     return of_disc(path)[1].size // (CHANNELS * SAMPLE_BYTES)
 
 
 def length(path: Path) -> int:
-    """How many blocks the sound takes; the last one may be filled up with silence."""
+    """The number of blocks of the sound; the last one may be padded with silence."""
     return -(-frames(path) // FRAMES_A_BLOCK)
 
 
@@ -186,8 +186,7 @@ def header(samples: int) -> bytes:
 
 @functools.lru_cache(maxsize=None)
 def treated(path: Path, treatment: Treatment) -> Path:
-    """The sound with a treatment: this file if there is nothing to be done, or a WAV file that is there while the desk
-    runs."""
+    """The treated sound: this file if there is nothing to do, or a WAV file that exists while the desk runs."""
     if treatment == Treatment():
         return path
     name, wave = of_disc(path)
@@ -205,7 +204,7 @@ def treated(path: Path, treatment: Treatment) -> Path:
 
 
 def span_of(path: Path, wave: Wave, treatment: Treatment) -> tuple[int, int]:
-    """From and to which frame a sound is taken."""
+    """The frames at which a sound begins and ends."""
     count = wave.size // (CHANNELS * SAMPLE_BYTES)
     last = count if treatment.end is None else round(RATE * treatment.end)
     first = round(RATE * treatment.begin)
@@ -216,12 +215,12 @@ def span_of(path: Path, wave: Wave, treatment: Treatment) -> tuple[int, int]:
 
 
 def new_file(ending: str) -> Path:
-    """A file that is there while the desk runs."""
+    """A file that exists while the desk runs."""
     return Path(folder()) / f"{len(os.listdir(folder()))}{ending}"
 
 
 def faded(samples: bytes, fade_in: float, fade_out: float) -> bytes:
-    """Samples that come from silence and go into it, evenly."""
+    """Samples that fade in from silence and out to it, linearly."""
     values = array.array("h", samples)
     count = len(values) // CHANNELS
     steps = [min(count, round(RATE * seconds)) for seconds in (fade_in, fade_out)]
@@ -238,7 +237,7 @@ def faded(samples: bytes, fade_in: float, fade_out: float) -> bytes:
 
 
 def at_loudness(path: Path, samples: bytes, loudness: float) -> bytes:
-    """The samples at another loudness, by ffmpeg: one pass measures them, and one changes them as evenly as it can."""
+    """The samples at another loudness, with ffmpeg: one pass measures it, and one changes it as evenly as possible."""
     source, out = new_file(".wav"), Path(f"{new_file('')}-loud.wav")
     source.write_bytes(header(len(samples)) + samples)
     target = f"loudnorm=I={loudness:g}:TP={HIGHEST_PEAK}:LRA=20"
@@ -270,7 +269,7 @@ def is_number(word: str) -> bool:
 
 
 def run_ffmpeg(path: Path, words: list[str], level: str = "error") -> bytes:
-    """What ffmpeg prints while it works on a sound."""
+    """The messages of ffmpeg while it processes a sound."""
     if not shutil.which("ffmpeg"):
         raise Refusal(path, "its loudness needs ffmpeg, which is not installed")
     done = subprocess.run(
@@ -283,12 +282,12 @@ def run_ffmpeg(path: Path, words: list[str], level: str = "error") -> bytes:
 
 
 def length_with(path: Path, intro: float) -> int:
-    """How many blocks a sound takes with silence in front."""
+    """The number of blocks of a sound with silence in front."""
     return -(-(frames(path) + round(RATE * intro)) // FRAMES_A_BLOCK)
 
 
 def sound_beside(lyrics: Path) -> Path | None:
-    """The sound next to lyrics with the same name, whose ending is in small letters or in capitals."""
+    """The sound next to lyrics with the same name, with an ending in lower or upper case."""
     exact = next((path for path in (lyrics.with_suffix(ending) for ending in ENDINGS) if path.exists()), None)
     if exact or not lyrics.name:
         return exact
@@ -297,7 +296,7 @@ def sound_beside(lyrics: Path) -> Path | None:
         names = [path for path in lyrics.parent.iterdir() if path.name.lower() in wanted]
     except OSError:
         return None
-    # The name itself may differ in the size of its letters too, if that leaves no doubt.
+    # The name may also differ in upper and lower case, if only one file matches.
     best = min((wanted[path.name.lower()] for path in names), default=0)
     found = [path for path in names if wanted[path.name.lower()] == best]
     same = [path for path in found if path.stem == lyrics.stem]

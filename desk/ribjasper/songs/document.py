@@ -17,7 +17,7 @@ VERSION = 1
 MARKS = ("M: ", "F: ", "v3: ", "v4: ", "D: ")
 # Tags with a special meaning, which are not just a name and a value.
 SPECIAL = {"ti", "ar", "offset", "singer", *INSERTS}
-# An insert of a song: what it shows, its time if it has one, and the time that it comes after.
+# An insert of a song: its content, its time if it has one, and the time after which it is placed.
 Shown = tuple[str, float | None, float]
 
 
@@ -56,7 +56,7 @@ def shows(song: Song) -> list[Shown]:
 
 
 def is_same(one: Song, other: Song) -> bool:
-    """Whether two songs hold the same, apart from the rows of their files."""
+    """Whether two songs have the same content, apart from the rows of their files."""
     heads = [(song.title, song.performer, song.singers, song.tags, shows(song)) for song in (one, other)]
     return heads[0] == heads[1] and [values_of(line) for line in one.lines] == [values_of(line) for line in other.lines]
 
@@ -74,7 +74,7 @@ def rests_in(text: str) -> list[float]:
 
 
 def others_in(text: str) -> list[str]:
-    """The rows of LRC that a song does not hold: text without a time, and tags that come once more."""
+    """The rows of LRC that are not part of a song: text without a time, and repeated tags."""
     kept, known = list[str](), set[str]()
     for row in text.splitlines():
         starts, rest = stamps_of(row.strip())
@@ -154,7 +154,7 @@ def is_exact(time: float, digits: int) -> bool:
 
 
 def digits_for(song: Song) -> int:
-    """Hundredths, or thousandths where these are exact and hundredths are not."""
+    """Hundredths of a second, or thousandths if only these are exact."""
     times = [time for line in song.lines for one in line.syllables for time in (one.start, one.end)]
     return 3 if not all(is_exact(one, 2) for one in times) and all(is_exact(one, 3) for one in times) else 2
 
@@ -165,7 +165,7 @@ def lrc_time(time: float, digits: int) -> str:
 
 
 def on_a_row(text: str) -> str:
-    """A text without what ends a row."""
+    """A text without characters that end a row."""
     return "".join(" " if letter.splitlines() == [""] else letter for letter in text)
 
 
@@ -174,12 +174,12 @@ def fits_tag(value: str) -> bool:
 
 
 def tag(name: str, value: str) -> list[str]:
-    """A row for a tag, or none where LRC cannot express it."""
+    """A row for a tag, or None if LRC cannot express it."""
     return [f"[{name}:{value}]"] if fits_tag(value) else []
 
 
 def names_of(song: Song) -> list[str]:
-    """The singers, if LRC gives each the voice that the song gives it."""
+    """The singers, if LRC gives each of them the voice that the song has."""
     trial = Song([])
     for name in song.singers:
         trial.voice_of(name, 0)
@@ -252,7 +252,7 @@ def row_of(line: Line, mark: str, digits: int) -> str:
 
 
 def toml_value(value: object) -> str:
-    """A value as TOML spells it."""
+    """A value in the syntax of TOML."""
     if isinstance(value, str):
         return json.dumps(value, ensure_ascii=False).replace("\x7f", "\\u007f")
     if isinstance(value, bool):
@@ -387,7 +387,7 @@ def apply_lines(song: Song, rows: list[str], entries: list[dict[str, Any]], path
         others = [line for line in song.lines if line.number != at]
         new = line_of(entry, values_of(old[0]) if len(old) == 1 else None)
         new.number, new.written = at, old[0].written if old else lrc.partition("]")[0] + "]"
-        # Lines that begin at one time stay in the order of their rows.
+        # Lines that begin at the same time stay in the order of their rows.
         song.lines = sorted([*others, new], key=lambda line: line.number)
 
 
@@ -406,7 +406,7 @@ def line_of(entry: dict[str, Any], read: LineValues | None) -> Line:
         raise ValueError("a line has not as many times as words")
     until = value("until")
     syllables = [Syllable(*parts) for parts in zip(texts, *lists, voices)]
-    # Files of before page breaks have no such value.
+    # Files from before page breaks existed have no such value.
     new_page = bool(entry.get("page", read.page if read else False))
     return Line(0, syllables, bool(value("whole")), "", None if until in (None, False) else number(until), new_page)
 

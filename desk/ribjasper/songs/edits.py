@@ -1,4 +1,4 @@
-"""Edits of a score: each is a small table, as JSON holds it, and makes another score. An edit that does not fit changes
+"""Edits of a score: each is a small table, as in JSON, and makes another score. An edit that does not fit changes
 nothing and raises BadEdit."""
 import difflib
 import math
@@ -12,14 +12,14 @@ from .song_files import LONGEST_SONG
 from .songs import BOTH, FIRST, letters_in
 
 Edit = dict[str, Any]
-# The most letters of a text, and the most lines of a song.
+# The greatest number of letters in a text, and of lines in a song.
 MOST_LETTERS, MOST_LINES = 1_000, 2_000
 # Times are kept to thousandths of a second.
 DIGITS = 3
 
 
 class BadEdit(ValueError):
-    """Why an edit cannot be made."""
+    """The reason why an edit cannot be made."""
 
 
 def edited(score: Score, edit: Edit) -> Score:
@@ -34,7 +34,7 @@ def edited(score: Score, edit: Edit) -> Score:
     except (KeyError, IndexError, TypeError, ValueError, AttributeError) as error:
         raise BadEdit(f"{edit.get('do')}: {error}") from None
     known = {line.key: line for line in score.lines}
-    # Lines of a file may have other times, as those that begin before the sound.
+    # The lines of a file may have other times, for example before the sound begins.
     lines = (line if known.get(line.key) == line else checked(line) for line in settled(score, made))
     made = replace(made, lines=tuple(lines))
     if len(made.lines) > MOST_LINES:
@@ -129,7 +129,7 @@ def voice_in(value: object) -> int:
 
 
 def with_line(score: Score, place: int, *lines: ScoreLine) -> Score:
-    """A score with other lines in place of one."""
+    """A score with other lines instead of one."""
     return replace(score, lines=(*score.lines[:place], *lines, *score.lines[place + 1 :]))
 
 
@@ -141,7 +141,7 @@ def free_key(score: Score) -> int:
 
 
 def fill_before(words: list[Word], place: int, time: float) -> None:
-    """Words in front of one that are not timed come evenly between the last timed one and a time."""
+    """Spreads the untimed words before a word evenly between the last timed one and a time."""
     first = next((at for at in range(place) if not words[at].is_timed), place)
     begin = min(time, (words[first - 1].end or 0.0) if first else time)
     step = (time - begin) / max(1, place - first)
@@ -151,7 +151,7 @@ def fill_before(words: list[Word], place: int, time: float) -> None:
 
 
 def started(words: Sequence[Word], place: int, time: float) -> list[Word]:
-    """Moves one word to a time; the others give way, so that times never go back."""
+    """Moves one word to a time; the others are moved as needed, so that times never go back."""
     made = list(words)
     fill_before(made, place, time)
     before = made[place - 1] if place else None
@@ -204,14 +204,14 @@ def in_words(line: ScoreLine) -> ScoreLine:
 
 
 def next_start(score: Score, place: int, time: float) -> float | None:
-    """When the next line of the same voice begins after a time."""
+    """The time at which the next line of the same voice begins, after a time."""
     voice = score.lines[place].voice
     starts = [line.start for line in score.lines if line.start is not None and line.voice == voice]
     return min((start for start in starts if start > time), default=None)
 
 
 def ended_before(score: Score, place: int, time: float) -> Score:
-    """A score in which the line in front of one is sung out when that begins, if one voice sings both."""
+    """A score in which the line before a line ends when this one begins, if one voice sings both."""
     if not place:
         return score
     line = score.lines[place - 1]
@@ -223,7 +223,7 @@ def ended_before(score: Score, place: int, time: float) -> Score:
 
 
 def start(score: Score, edit: Edit) -> Score:
-    """A word begins at another time."""
+    """Moves the beginning of a word."""
     place = score.place_of(key_of(edit["line"]))
     line = score.lines[place]
     at = place_of(edit, len(line.words))
@@ -231,7 +231,7 @@ def start(score: Score, edit: Edit) -> Score:
 
 
 def end(score: Score, edit: Edit) -> Score:
-    """A word ends at another time: not before it begins, nor after the next one does."""
+    """Moves the end of a word: not before its beginning, nor past the end of the next one."""
     place = score.place_of(key_of(edit["line"]))
     line = score.lines[place]
     at = place_of(edit, len(line.words))
@@ -246,7 +246,7 @@ def end(score: Score, edit: Edit) -> Score:
 
 
 def clear(score: Score, edit: Edit) -> Score:
-    """Lines lose their times."""
+    """Removes the times of lines."""
     keys = keys_of(score, edit)
     lines = (cleared(line) if line.key in keys else line for line in score.lines)
     return replace(score, lines=tuple(lines))
@@ -258,7 +258,7 @@ def cleared(line: ScoreLine) -> ScoreLine:
 
 
 def move(score: Score, edit: Edit) -> Score:
-    """Words, lines, or everything from a time on move by some seconds; what stays is never passed."""
+    """Moves words, lines, or everything from a time on by some seconds, but not past words that are not moved."""
     moved = moved_words(score, edit)
     by = number_of(edit, "by")
     least, most = bounds(score, moved)
@@ -288,7 +288,7 @@ def moved_words(score: Score, edit: Edit) -> dict[int, set[int]]:
 
 
 def bounds(score: Score, moved: dict[int, set[int]]) -> tuple[float, float]:
-    """By how much words may move at least and at most."""
+    """The least and the greatest distance by which words may move."""
     least, most = -math.inf, math.inf
     for line in score.lines:
         for at in moved.get(line.key, ()):
@@ -305,7 +305,7 @@ def bounds(score: Score, moved: dict[int, set[int]]) -> tuple[float, float]:
 
 
 def shifted(line: ScoreLine, places: set[int], by: float) -> ScoreLine:
-    """Moves some words of a line. If the word in front of a moved one ended where that one began, it still does."""
+    """Moves some words of a line. If the word before a moved one ended at its beginning, it still does."""
     if not places or not by:
         return line
     words = list(line.words)
@@ -321,7 +321,7 @@ def shifted(line: ScoreLine, places: set[int], by: float) -> ScoreLine:
 
 
 def rest_moved(score: Score, time: float, by: float) -> Score:
-    """Rests and pictures from a time on move with the lines."""
+    """Moves rests and pictures from a time on together with the lines."""
 
     def later(at: float) -> float:
         return max(0.0, round(at + by, DIGITS)) if at >= time else at
@@ -358,14 +358,14 @@ def retimed(words: Sequence[Word], texts: Sequence[str]) -> list[Word]:
             made += shared(words, first, last, texts[begin:until])
     is_cut = False
     for at, word in enumerate(made):
-        # Words behind one without a time have none either.
+        # Words after one without a time have none either.
         is_cut = is_cut or not word.is_timed
         made[at] = replace(word, start=None, end=None) if is_cut else word
     return capped(made)
 
 
 def shared(words: Sequence[Word], first: int, last: int, texts: Sequence[str]) -> list[Word]:
-    """New words in place of some, or between two; their times are shared by their letters."""
+    """New words instead of some, or between two; their times are divided by their letters."""
     voice = words[min(first, len(words) - 1)].voice
     gone = words[first:last]
     if gone and gone[0].start is not None and gone[-1].end is not None:
@@ -388,7 +388,7 @@ def shared(words: Sequence[Word], first: int, last: int, texts: Sequence[str]) -
 
 
 def add(score: Score, edit: Edit) -> Score:
-    """A new line, without times, behind another one or in front of all."""
+    """A new line without times, after another one or before all lines."""
     words = tuple(Word(one) for one in split_words(text_of(edit["text"]).strip()))
     after = edit.get("after")
     place = 0 if after is None else score.place_of(key_of(after)) + 1
@@ -427,7 +427,7 @@ def cut(score: Score, edit: Edit) -> Score:
 
 
 def glue(score: Score, edit: Edit) -> Score:
-    """A line and the next one become one."""
+    """Joins a line and the next one."""
     place = score.place_of(key_of(edit["line"]))
     if place + 1 == len(score.lines):
         raise BadEdit("there is no next line")
@@ -450,7 +450,7 @@ def glue(score: Score, edit: Edit) -> Score:
 
 
 def replace_two(score: Score, place: int, line: ScoreLine) -> Score:
-    """A score with a line in place of two."""
+    """A score with one line instead of two."""
     return replace(score, lines=(*score.lines[:place], line, *score.lines[place + 2 :]))
 
 
@@ -458,7 +458,7 @@ def replace_two(score: Score, place: int, line: ScoreLine) -> Score:
 
 
 def voice(score: Score, edit: Edit) -> Score:
-    """Another singer sings some lines."""
+    """Lets another singer sing some lines."""
     keys, number = keys_of(score, edit), voice_in(edit["voice"])
 
     def sung(line: ScoreLine) -> ScoreLine:
@@ -468,20 +468,20 @@ def voice(score: Score, edit: Edit) -> Score:
 
 
 def page(score: Score, edit: Edit) -> Score:
-    """A page begins with a line, or does not have to."""
+    """Sets or removes a line's mark that it begins a page."""
     place = score.place_of(key_of(edit["line"]))
     return with_line(score, place, replace(score.lines[place], new_page=bool(edit["page"])))
 
 
 def head(score: Score, edit: Edit) -> Score:
-    """Title, performer and the names of the singers."""
+    """Sets the title, the performer and the names of the singers."""
     title, performer = (text_of(edit.get(name, getattr(score, name))) for name in ("title", "performer"))
     singers = tuple(text_of(one) for one in edit.get("singers", score.singers))
     return replace(score, title=title, performer=performer, singers=singers)
 
 
 def look(score: Score, edit: Edit) -> Score:
-    """Values of the look; `null` is the default."""
+    """Sets values of the look; `null` is the default."""
     asked = {str(name): value for name, value in edit["look"].items()}
     wrong = [name for name, value in asked.items() if value is not None and not fits(name, value)]
     if wrong:
@@ -490,7 +490,7 @@ def look(score: Score, edit: Edit) -> Score:
 
 
 def picture(score: Score, edit: Edit) -> Score:
-    """A picture or a colour between verses, at a time."""
+    """Sets a picture or a colour between verses, at a time."""
     what = text_of(edit["what"]).strip()
     if not is_own_name(what):
         raise BadEdit("pictures are files in the folder of the song")
@@ -503,7 +503,7 @@ def unpicture(score: Score, edit: Edit) -> Score:
 
 
 def several(score: Score, edit: Edit) -> Score:
-    """Edits that are undone together."""
+    """Makes edits that are undone together."""
     for one in edit["edits"]:
         if one["do"] == "several":
             raise BadEdit("edits that are undone together do not hold others")

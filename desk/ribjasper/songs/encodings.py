@@ -9,11 +9,11 @@ SAID = re.compile(rb"^#ENCODING:\s*(\S+)", re.MULTILINE | re.IGNORECASE)
 MARKS = ((codecs.BOM_UTF8, "utf-8-sig"), (codecs.BOM_UTF16_LE, "utf-16"), (codecs.BOM_UTF16_BE, "utf-16"))
 UTF_8 = ("utf-8", "utf-8-sig")
 NAMES = {"utf-16-le": "UTF-16", "utf-16-be": "UTF-16", "utf-16": "UTF-16", "cp932": "Shift-JIS", "cp949": "EUC-KR"}
-# What detectors name, and the superset that programs write under that name.
+# The names that detectors return, and the superset that programs write under each name.
 SUPERSETS = {"gb2312": "gb18030", "gbk": "gb18030", "euc_kr": "cp949", "shift_jis": "cp932", "tis-620": "cp874"}
-# A detector that is less sure is not believed.
+# The result of a less certain detector is ignored.
 LEAST_SURE = 0.5
-# Parts of a text: kana that show Shift-JIS, and letters beyond ASCII that an alphabet has to hold.
+# Parts of a text: kana that show Shift-JIS, and letters beyond ASCII that an alphabet must cover.
 LEAST_KANA, LEAST_COVERED = 0.2, 0.95
 # The letters beyond ASCII of languages in Latin script, by the encoding of their old files. Detectors do not
 # distinguish these encodings.
@@ -33,7 +33,7 @@ ALPHABETS = {
     "cp1254": ("çğıöşüâîû",),
     "cp1257": ("āčēģīķļņšūž", "ąčęėįšųūž", "äõöüšž"),
 }
-# Signs that texts of all languages have.
+# Signs that occur in texts of all languages.
 SIGNS = set("’‘“”„‚«»–—…·•°§ ©´`‹›€")
 
 
@@ -45,14 +45,14 @@ class Guess(NamedTuple):
 
 
 def shown_name(name: str) -> str:
-    """An encoding as people call it."""
+    """The usual name of an encoding."""
     name = codecs.lookup(name).name
     return NAMES.get(name, f"Windows-{name[2:]}" if re.fullmatch(r"cp125\d", name) else name.upper())
 
 
 def encoding_of(content: bytes) -> Guess | None:
-    """The encoding of a text, or nothing if no guess is good enough. UTF-16 without a mark has zeros where it has Latin
-    letters."""
+    """The encoding of a text, or None if no guess is good enough. In UTF-16 without a mark, Latin letters have zero
+    bytes."""
     for mark, name in MARKS:
         if content.startswith(mark):
             return Guess(name)
@@ -85,7 +85,7 @@ def decodes(content: bytes, name: str) -> bool:
 
 
 def without_times(content: bytes) -> bytes:
-    """A text without the times and tags between its words, which only blur a guess."""
+    """A text without the times and tags between its words, which only disturb a guess."""
     return re.sub(rb"[\[<{][\d:.,]+[\]>}]|\[\w+:|\{[^{}]*\}", b" ", content)
 
 

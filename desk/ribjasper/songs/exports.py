@@ -3,8 +3,8 @@ from typing import Callable
 
 from .songs import BOTH, FIRST, FOURTH, SECOND, THIRD, Line, Song
 
-# Beats a minute with which a note of UltraStar begins at a hundredth of a second; a beat is a quarter of one of the
-# music.
+# The beats per minute with which a note of UltraStar begins at a hundredth of a second; a beat in the file is a quarter
+# of a beat of the music.
 TEMPO = 1500
 ASS_HEAD = """[Script Info]
 Title: {title}
@@ -32,7 +32,7 @@ def clock_with_hours(units: int, a_second: int, digits: int, point: str, hour_di
 
 
 class Spelling:
-    """Letters of a song in a format; those that mean something else there are replaced, with a note."""
+    """Letters of a song in a format; those with a special meaning there are replaced, with a note."""
 
     def __init__(self, song: Song, kind: str, instead: dict[str, str]) -> None:
         self.song, self.kind, self.instead = song, kind, instead
@@ -55,7 +55,7 @@ def ordered(song: Song) -> list[Line]:
 
 
 def as_srt(song: Song) -> str:
-    """Each line with its beginning and its end, to thousandths; SubRip has no times of words and no voices."""
+    """Each line with its beginning and its end, in thousandths; SubRip has neither times of words nor voices."""
     letters = Spelling(song, "SubRip", {"<": "\u2039", ">": "\u203a", "{": "(", "}": ")"})
     cues = []
     for number, line in enumerate(ordered(song), 1):
@@ -65,7 +65,8 @@ def as_srt(song: Song) -> str:
 
 
 def voices_first(lines: list[Line]) -> list[Line]:
-    """The lines, with the first one of each voice in front, since programs number voices as they come."""
+    """The lines, with the first line of each voice in front, because programs number voices in the order of the
+    file."""
     first: dict[int, Line] = {}
     for line in lines:
         first.setdefault(line.voice, line)
@@ -74,7 +75,7 @@ def voices_first(lines: list[Line]) -> list[Line]:
 
 
 def as_ass(song: Song) -> str:
-    """Words with `\\k`, to hundredths of a second; a line that has one time has no `\\k`."""
+    """Words with `\\k`, in hundredths of a second; a line with a single time has no `\\k`."""
     letters = Spelling(song, "ASS", {"{": "(", "}": ")", "\\": "/"})
     names = Spelling(song, "ASS", {",": ";", "\\": "/"})
     lines = ordered(song)
@@ -95,7 +96,7 @@ def name_of(song: Song, voice: int) -> str:
 
 
 def timed(line: Line, letters: Spelling) -> str:
-    """Each word with how long it is sung; what passes between two words belongs to no word."""
+    """Each word with its duration; the time between two words belongs to neither."""
     text, now = "", hundredths(line.start)
     parts = line.syllables
     for one, following in zip(parts, [*parts[1:], None]):
@@ -110,7 +111,7 @@ def timed(line: Line, letters: Spelling) -> str:
 
 
 def as_ultrastar(song: Song) -> str:
-    """Notes without pitches, to hundredths of a second. A line that all sing is one of both singers."""
+    """Notes without pitches, in hundredths of a second. A line that all sing is a line of both singers."""
     letters = Spelling(song, "UltraStar", {"~": "\u223c"})
     lines = ordered(song)
     head = [f"#TITLE:{letters.spelled(song.title, 'the title').strip()}"]
@@ -131,7 +132,7 @@ def as_ultrastar(song: Song) -> str:
 
 
 def notes_of(lines: list[Line], letters: Spelling) -> list[str]:
-    """The notes of some lines, with a break in front of each line but the first."""
+    """The notes of some lines, with a break before each line except the first."""
     rows: list[str] = []
     for line in lines:
         if rows:

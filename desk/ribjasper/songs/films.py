@@ -9,15 +9,15 @@ from typing import IO, Iterator, NamedTuple
 from ..common.failures import Missing, Name, Refusal
 from ..common.library import HEIGHT, WIDTH
 
-# What x264 leaves out: frames between two others, and a long search for what moved. Tiles change in place.
+# x264 omits frames that depend on later ones, and long searches for motion: tiles change in place.
 PLAIN_SEARCH = "bframes=0:me=dia:subme=0:trellis=0"
-# Frames are small: more threads take longer, and more of the processors.
+# Frames are small: more threads take longer and use more processors.
 READING = ["-threads", "1", "-filter_threads", "1"]
 CODING = ["-threads", "2"]
 
 
 class FilmForm(NamedTuple):
-    """The sound of a film, its frames a second, by how much its pictures are enlarged, and whether each pixel is kept."""
+    """The sound of a film, its frames per second, the factor of its pictures, and whether each pixel is kept."""
 
     sound: Path | None
     rate: int = 25

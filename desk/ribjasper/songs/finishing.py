@@ -1,4 +1,4 @@
-"""The pair of a song as files: which are written, and how."""
+"""The pair of a song as files: their names, and how they are written."""
 import os
 from dataclasses import dataclass
 from pathlib import Path
@@ -13,8 +13,8 @@ from .sound_files import write_sound, write_zip
 
 @dataclass(frozen=True)
 class PairFiles:
-    """The name of a pair without an ending, the sound that it is made of, and how it is written: the sound as MP3, both
-    in a ZIP file, silence in front."""
+    """The name of a pair without an ending, the sound from which it is made, and how it is written: the sound as MP3,
+    both in a ZIP file, silence in front."""
 
     name: str
     source: Path
@@ -40,7 +40,7 @@ class PairFiles:
 
     @property
     def is_there(self) -> bool:
-        """Whether the sound of the pair is the file that it would be made of."""
+        """Whether the sound of the pair is already the file from which it would be made."""
         return os.path.exists(self.sound) and os.path.samefile(self.sound, self.source) and not self.is_mp3
 
     def writes(self) -> list[tuple[str, Kind]]:
@@ -51,7 +51,7 @@ class PairFiles:
         return [(self.cdg, kinds.CDG)] + [(self.sound, kinds.SOUND)] * (not self.is_there)
 
     def write(self, outputs: Outputs, packs: bytes, sound: Path, song: Song) -> None:
-        """Writes the graphics and the sound, as it is to be heard."""
+        """Writes the graphics and the treated sound."""
         if self.is_packed:
             write_zip(outputs, self.packed, packs, sound, song, self.ending)
             return

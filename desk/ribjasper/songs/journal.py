@@ -13,12 +13,12 @@ from .scores import Score
 
 ENDING = ".studio"
 VERSION = 1
-# How a journal begins.
+# The beginning of a journal.
 MARK = '{"ribjasper-studio": '
 
 
 def journal_of(song: Path) -> Path:
-    """The journal of a song: its name has the whole name of the song's file in front."""
+    """The journal of a song; its name begins with the whole name of the song's file."""
     return song.with_name(song.name + ENDING)
 
 
@@ -95,7 +95,7 @@ class Journal:
     sums: dict[str, str | None] = field(default_factory=dict)
 
     def content(self) -> bytes:
-        """The journal as a file: a table for what was opened, one for each edit, and one for where it is."""
+        """The journal as a file: a table for the opened files, one for each edit, and one for the current position."""
         files = [None if one is None else base64.b64encode(one).decode() for one in (self.lyrics, self.more)]
         head = {"ribjasper-studio": VERSION, "lyrics": files[0], "more": files[1]}
         last = {"at": self.at, "saved": self.saved, "sums": self.sums}
@@ -103,7 +103,7 @@ class Journal:
 
     @property
     def is_saved(self) -> bool:
-        """Whether nothing is lost without the journal."""
+        """Whether nothing would be lost without the journal."""
         return self.at == (self.saved if self.saved is not None else 0)
 
 

@@ -6,7 +6,7 @@ from ..common.failures import Refusal
 from ..common.output import package
 from .songs import LONGEST_WORD, Line, Song, Syllable, song_time
 
-# What begins a new line or page in front of a text, and what begins a text that is no lyrics.
+# The prefix of a text that begins a new line or page, and the prefix of a text that is not sung.
 NEW_LINE, TAG = ("/", "\\", "\r", "\n"), "@"
 # Turns all texts of a file into letters.
 Decode = Callable[[list[bytes]], list[str]]

@@ -1,5 +1,5 @@
-"""How many packs steps need, kept from one edit to the next: rows that did not change, over a screen that did not, are not
-asked for again."""
+"""The numbers of packs that steps need, kept from one edit to the next: unchanged rows over an unchanged screen are not
+planned again."""
 import hashlib
 import itertools
 from dataclasses import dataclass
@@ -11,7 +11,7 @@ from ..common.times import spelled
 from ..drawing.raster import Raster, TILE_HEIGHT, span_lines, lines_between, spans
 from .pages import ColumnStep, Placed
 
-# The most places of pages whose needs are kept.
+# The greatest number of places of pages whose needs are kept.
 MOST_KEPT = 2_000
 FIRST = "00:01:00"
 
@@ -25,7 +25,7 @@ class StepNeeds:
 
 
 class Known:
-    """Answers by what they depend on: the whole screen before a place is drawn, and what its steps bring."""
+    """Needs by what they depend on: the whole screen before a place is drawn, and the pixels of its steps."""
 
     def __init__(self) -> None:
         self.answers: dict[bytes, StepNeeds] = {}
@@ -50,7 +50,7 @@ def area_of(placed: Placed) -> range:
 
 
 def need_key(placed: Placed, steps: Sequence[ColumnStep], ground: Raster) -> bytes:
-    """What the needs of the steps of a place depend on."""
+    """All that the needs of the steps of a place depend on."""
     area = area_of(placed)
     digest = hashlib.blake2b(b"".join(ground.rows), digest_size=24)
     for row in itertools.chain(placed.rows, placed.lit, placed.empty.rows[area.start : area.stop]):
@@ -62,7 +62,7 @@ def need_key(placed: Placed, steps: Sequence[ColumnStep], ground: Raster) -> byt
 
 @dataclass
 class Waiting:
-    """Steps of a place whose pictures are in the script, from one number on."""
+    """The steps of a place whose pictures are in the script, from one number on."""
 
     key: bytes
     steps: list[ColumnStep]
@@ -71,7 +71,7 @@ class Waiting:
 
 
 class Asker:
-    """Asks for the needs of steps that are not known, in one script for many of them."""
+    """Plans the unknown needs of many steps together, in one script."""
 
     def __init__(self, ground: Raster, known: Known, ask: Callable[[list[str]], Sequence[PlannedPicture]]) -> None:
         self.known, self.ask = known, ask
@@ -102,7 +102,7 @@ class Asker:
             for number, row in zip(area, found.after):
                 self.ground.rows[number][:] = row
             return
-        # The script has what the known steps in front of these brought.
+        # The script must contain the pixels of the known steps before these.
         if stale := list(spans(self.scripted.rows, self.ground.rows)):
             self.show(span_lines(stale))
         first = self.count
@@ -116,7 +116,7 @@ class Asker:
         self.waiting.append(Waiting(key, steps, first, after))
 
     def end(self) -> None:
-        """Asks for all that waits."""
+        """Plans all waiting steps."""
         rows = self.ask(self.lines) if self.waiting else []
         for one in self.waiting:
             needs = [row.need for row in rows[one.first : one.first + len(one.steps)]]
@@ -129,7 +129,7 @@ class Asker:
 def ask_known(
     steps: Sequence[ColumnStep], ground: Raster, known: Known, ask: Callable[[list[str]], Sequence[PlannedPicture]]
 ) -> None:
-    """Sets the needs of steps that are drawn one after the other on a ground."""
+    """Sets the needs of steps that are drawn one after another on a screen."""
     asker = Asker(ground, known, ask)
     for placed, some in itertools.groupby(steps, key=lambda step: step.placed):
         asker.add(placed, list(some))

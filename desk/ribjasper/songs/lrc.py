@@ -9,7 +9,7 @@ TAG = re.compile(r"\[([a-zA-Z#]+):([^\]]*)\]\s*$")
 STAMP = re.compile(r"\[(\d{1,6}):(\d{1,6})(?:[.:](\d{1,6}))?\]\s*")
 WORD = re.compile(r"[<\[](\d{1,6}):(\d{1,6})(?:[.:](\d{1,6}))?[>\]]")
 OFFSET = re.compile(r"[+-]?\d{1,9}")
-# The marks of a man, a woman and both, or of one of up to four voices, in front of a line, for it and those after it.
+# Marks before a line for a man, a woman and both, or for one of up to four voices; they hold for the next lines too.
 MARK = re.compile(r"([MFD]|v[1-4]|[vV]oice ?[1-4]):\s*")
 MARKED = {"M": FIRST, "F": SECOND, "D": BOTH, "1": FIRST, "2": SECOND, "3": THIRD, "4": FOURTH}
 # Tags for a picture between verses.
@@ -18,7 +18,7 @@ INSERTS = ("image", "picture", "colour", "color")
 
 @dataclass
 class Stamped:
-    """A line of an LRC file at one of its times: the pieces of text, each with its own time where it has one."""
+    """A line of an LRC file at one of its times: the pieces of text, each with its own time if it has one."""
 
     number: int
     written: str
@@ -72,7 +72,7 @@ def read_lrc(text: str, song: Song) -> None:
 
 
 def later_ones(stamped: list[Stamped]) -> list[Stamped | None]:
-    """For each line the first one with a later time."""
+    """For each line, the first one with a later time."""
     found: list[Stamped | None] = []
     following: Stamped | None = None
     for place in range(len(stamped) - 1, -1, -1):
@@ -83,8 +83,8 @@ def later_ones(stamped: list[Stamped]) -> list[Stamped | None]:
 
 
 def tell_order(song: Song, stamped: list[Stamped]) -> None:
-    """Notes each line that is earlier than one before it, or at the same time; a line that comes at several times may
-    be earlier."""
+    """Notes each line that is earlier than the previous one, or at the same time; a line with several times may be
+    earlier."""
     counts = Counter(one.number for one in stamped)
     once = [one for one in stamped if counts[one.number] == 1 and not one.is_empty()]
     for before, one in zip(once, once[1:]):
@@ -106,7 +106,7 @@ def offset_of(value: str, song: Song, number: int) -> float:
 
 
 def stamps_of(line: str) -> tuple[list[tuple[float, str]], str]:
-    """The times in front of a line, also as they are written, and what follows."""
+    """The times in front of a line, their spelling, and the rest of the line."""
     starts, at = [], 0
     while stamp := STAMP.match(line, at):
         starts.append((seconds(*stamp.groups()), stamp[0].rstrip()))
@@ -115,7 +115,7 @@ def stamps_of(line: str) -> tuple[list[tuple[float, str]], str]:
 
 
 def line_pieces(rest: str, later: float) -> list[tuple[float | None, str]]:
-    """The pieces of a line; for a line with several times, those of its words move along."""
+    """The pieces of a line; for a line with several times, the times of its words are moved accordingly."""
     parts: list[tuple[float | None, str]] = []
     at, time = 0, None
     for word in WORD.finditer(rest):

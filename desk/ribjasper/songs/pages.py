@@ -13,11 +13,12 @@ from .songs import Line, Syllable
 # The minimum lengths of a rest, in seconds: after REST a new page begins although the page is not full; after
 # COUNTED_REST dots count down to the next line; after SHOWN_REST a page shows how long the rest is.
 REST, COUNTED_REST, SHOWN_REST = 3.0, 6.0, 12.0
-# What is left of a page goes so long after its last word; a page after a long rest comes so long before its first.
+# The rest of a page disappears GOES seconds after its last word; a page after a long rest appears COMES seconds before
+# its first word.
 GOES, COMES = 2.0, 6.0
-# A row comes into a place so long after what was sung there, where a short page may choose.
+# On a short page, a row appears this long after the row before it in its place was sung.
 ROOM_BEFORE = 1.5
-# The dots that count a line in go out a second after each other.
+# The dots of a countdown disappear a second after each other.
 DOTS = 3
 DOT = (
     "......",
@@ -33,25 +34,25 @@ DOT = (
     "......",
     "......",
 )
-# Where no ink is.
+# Pixels without ink.
 NO_INK = bytes([255, *bytes(255)])
-# The columns that are drawn in one step.
+# The number of columns that are drawn in one step.
 STEP = TILE_WIDTH
 # A row of pixels with its number.
 Row = tuple[int, bytes]
 
 
 def over(ground: bytes, inks: bytes) -> bytes:
-    """Inks over a row of the ground, which is seen where they are 0."""
+    """Inks over a row of the background, which is visible where they are 0."""
     seen = int.from_bytes(ground, "big") & int.from_bytes(inks.translate(NO_INK), "big")
     return (seen | int.from_bytes(inks, "big")).to_bytes(len(inks), "big")
 
 
 @dataclass(eq=False)
 class Placed:
-    """Letters in one of the places of a page, or none where it is to be empty; when they are sung, in seconds; and what
-    was there before them. What is not sung is only shown. It is not drawn before `begin`, nor before the row that it
-    follows in the order of singing."""
+    """Letters in one of the places of a page, or None to empty the place; the times at which they are sung, in seconds;
+    and the letters before them. Letters that are not sung are only shown. They are drawn neither before `begin` nor
+    before the row that they follow in the order of singing."""
 
     slot: int
     top: int
@@ -70,8 +71,8 @@ class Placed:
 
     @property
     def lit_end(self) -> float:
-        """The time at which all of it is lit; a line whose end is a guess may stay longer. An empty place has the time
-        of its previous line."""
+        """The time at which the whole row is lit; a line whose end is a guess may remain longer. An empty place has the
+        time of its previous line."""
         if not self.letters:
             return self.before.lit_end if self.before else self.end
         return self.letters.syllables[-1].end
@@ -95,7 +96,7 @@ class Placed:
 
     @functools.cached_property
     def lit(self) -> list[bytes]:
-        """The same rows when all is sung; the dots are gone."""
+        """The same rows when everything is sung, without the dots."""
         rows = list(self.empty.rows[self.area.start : self.area.stop])
         first = self.top - self.area.start
         for number, inks in enumerate(self.letters.rows if self.letters else [], first):
@@ -132,7 +133,7 @@ class ColumnStep(Step):
     right: int
 
     def rows(self) -> Iterable[Row]:
-        """The rows that may change, with what they have in these columns."""
+        """The rows that may change, with their content in these columns."""
         raise NotImplementedError
 
     def differing(self, raster: Raster) -> list[Row]:
@@ -143,12 +144,12 @@ class ColumnStep(Step):
         self.draw(raster, self.rows())
 
     def draw(self, raster: Raster, rows: Iterable[Row]) -> None:
-        """Brings its columns of some of its rows."""
+        """Draws its columns of some of its rows."""
         for number, row in rows:
             raster.rows[number][self.left : self.right] = row[self.left : self.right]
 
     def lines(self, raster: Raster, rows: list[Row]) -> list[str]:
-        """The lines of a script that draw this on the screen, which then has it; only these rows can differ."""
+        """The lines of a script that draw this on the screen, which is updated; only these rows can differ."""
         spans, left, right = [], self.left, self.right
         for number, row in rows:
             pixels, drawn = row[left:right], raster.rows[number]
@@ -159,7 +160,7 @@ class ColumnStep(Step):
 
 
 class Draw(ColumnStep):
-    """They come, or go, over the empty page."""
+    """Letters appear on, or disappear from, the empty page."""
 
     def rows(self) -> Iterable[Row]:
         return zip(self.placed.area, self.placed.rows)
@@ -174,7 +175,7 @@ class Light(ColumnStep):
 
 
 class DotOut(ColumnStep):
-    """One of the dots that count a line in goes out."""
+    """One of the dots of a countdown disappears."""
 
     def rows(self) -> Iterable[Row]:
         empty = self.placed.empty.rows
@@ -183,7 +184,7 @@ class DotOut(ColumnStep):
 
 @dataclass
 class Group:
-    """The rows of a page, before they have their places; where they are counted in; and the second before which
+    """The rows of a page, before they get their places; the place of their countdown; and the second before which
     nothing of them is drawn."""
 
     rows: list[tuple[Line, list[list[Syllable]]]] = field(default_factory=list)
@@ -231,14 +232,14 @@ def still_page(texts: list[str], begin: float, end: float, font: Font) -> Group:
 
 
 class Screen:
-    """The places of a page while pages follow each other."""
+    """The places of a page, while pages follow each other."""
 
     def __init__(self, style: Style, empty: Raster, inks: Inks):
         self.style, self.empty, self.inks = style, empty, inks
         self.standing: list[Placed | None] = [None] * style.rows
 
     def place(self, slot: int, letters: Letters | None, start: float, end: float, inset: int = 0) -> Placed:
-        """Puts letters into a place, or makes it empty."""
+        """Puts letters into a place, or empties it."""
         top = self.style.top(slot)
         area = range(top if slot else 0, top + TILE_HEIGHT * self.style.slot_rows)
         placed = Placed(slot, top + inset, letters, start, end, area, self.empty, self.standing[slot], inks=self.inks)
@@ -249,8 +250,8 @@ class Screen:
         return placed
 
     def first_for(self, group: Group) -> int:
-        """The first place of a page: so that it is in the middle, or higher if a row would have too little time there
-        after the row that it follows."""
+        """The first place of a page: in the middle, or higher if a row would otherwise have too little time there after
+        the row that it follows."""
         middle = (self.style.rows - len(group.rows)) // 2
         starts = [row[0][0].start for _, row in group.rows]
 
@@ -273,8 +274,8 @@ class Screen:
 
 @dataclass
 class SongPage:
-    """What is to be drawn of a page, in its order, and what it is made of. A page that follows quickly does not wait
-    until the one in front of it is left."""
+    """The rows to draw for a page, in order, and the group from which the page is made. A page that follows quickly
+    does not wait until the previous one has disappeared."""
 
     placed: list[Placed]
     group: Group
@@ -282,8 +283,8 @@ class SongPage:
 
 
 def laid_out(groups: list[Group], setter: Setter, style: Style, empty: Raster, is_last: bool = True) -> list[SongPage]:
-    """Each row at its place, with those places that become empty; and last an empty page, if the song ends here, but
-    not with a page that is not sung."""
+    """Each row at its place, with the places that become empty; and last an empty page if the song ends here, except
+    after a page that is not sung."""
     inset = TILE_HEIGHT * max(0, (style.slot_rows - setter.tile_rows + 1) // 2)
     inset = min(inset, TILE_HEIGHT * max(0, style.slot_rows - setter.tile_rows))
     screen, pages = Screen(style, empty, setter.inks), list[SongPage]()
@@ -312,7 +313,7 @@ def laid_out(groups: list[Group], setter: Setter, style: Style, empty: Raster, i
 
 
 def count_in(placed: Placed) -> None:
-    """Puts dots above a line, if there is room."""
+    """Puts countdown dots above a line, if there is room."""
     if placed.top >= TILE_HEIGHT:
         middle = WIDTH // 2 // TILE_WIDTH
         placed.dots = [TILE_WIDTH * (middle + 2 * place - DOTS + 1) for place in range(DOTS)]

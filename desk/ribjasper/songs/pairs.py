@@ -13,11 +13,11 @@ from ..common.output import MOST_READ, read_file, tell
 
 CDG, ZIP = ".cdg", ".zip"
 ENDINGS = (CDG, ZIP)
-# The instructions of packs of graphics; only their lowest six bits count, as of each symbol.
+# The instructions of graphics packs; only their lowest six bits count, as in each symbol.
 MEMORY, BORDER, TILE, SCROLL, COPY, TRANSPARENT, TILE_XOR, LOW, HIGH = 1, 2, 6, 20, 24, 28, 38, 30, 31
 CHANGES_OFFSETS = (SCROLL, COPY, TRANSPARENT)
-# The first packs of a track begin in front of it: a player that skips to the track does not read them whole. From pack
-# 8 on presets and colours make it clean, at the latest here.
+# The first packs of a track begin before it: a player that skips to the track does not read them completely. From pack
+# 8 on, presets and colours make it clean, at the latest here.
 LOST, LATEST_START = 8, 48
 # If the graphics leave no room, the graphics and the sound are delayed by this number of blocks.
 LEAD = 4
@@ -47,7 +47,7 @@ def read_pair(path: Path, sound: Path | None = None) -> Pair:
 
 
 def unpacked(path: Path) -> tuple[bytes, Path]:
-    """The graphics of a ZIP file, and its sound as a file that is there while the desk runs."""
+    """The graphics in a ZIP file, and its sound as a file that exists while the desk runs."""
     with reading(path):
         try:
             with zipfile.ZipFile(path) as together:
@@ -94,8 +94,9 @@ def listed(packs: bytes) -> list[bytes]:
 
 
 def clean(packs: list[bytes]) -> list[bytes] | None:
-    """The packs with presets of the memory and the border and both packs of colours behind those that are lost, at
-    places whose own packs change nothing, so that all others keep their times; nothing if there is no room."""
+    """The packs with presets of the memory and the border and both packs of colours, inserted after the lost packs at
+    places whose own packs change nothing, so that all others keep their times; None if there are not enough such
+    places."""
     memory = border = 0
     colours = {LOW: bytes(16), HIGH: bytes(16)}
     for pack in packs[:LOST]:
@@ -131,7 +132,8 @@ def clean(packs: list[bytes]) -> list[bytes] | None:
 
 
 def as_track(path: Path, packs: bytes) -> tuple[list[bytes], int]:
-    """The packs of a pair as a track that begins clean from any screen, and by how many blocks they are later."""
+    """The packs of a pair as a track that begins clean from any screen, and the number of blocks by which they are
+    later."""
     some = listed(packs)
     found = clean(some + [bytes(PACK)] * max(0, LATEST_START - len(some)))
     if found:
@@ -142,12 +144,12 @@ def as_track(path: Path, packs: bytes) -> tuple[list[bytes], int]:
 
 
 def moves(packs: Sequence[bytes]) -> bool:
-    """Whether packs move the screen or let other pictures be seen through it, which presets do not undo."""
+    """Whether packs scroll the screen or make it transparent, which presets do not undo."""
     return any(instruction(pack) in CHANGES_OFFSETS for pack in packs)
 
 
 def unmoved(packs: list[bytes]) -> list[bytes]:
-    """The packs of a track with two more at its first idle places, which undo what another track has left moved."""
+    """The packs of a track with two more packs at its first idle places, which undo the scroll of an earlier track."""
     idle = [place for place in range(LOST + 4, len(packs)) if not any(packs[place])][:2]
     colour = next((pack[4] & 15 for pack in packs[LOST:] if instruction(pack) == MEMORY), 0)
     for place, pack in zip(idle, (pack_of(SCROLL, [colour]), pack_of(TRANSPARENT, []))):

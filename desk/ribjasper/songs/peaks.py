@@ -1,4 +1,4 @@
-"""What a page draws of a sound: the lowest and the highest sample of each hundredth of a second."""
+"""The data with which a page draws a sound: the lowest and the highest sample of each hundredth of a second."""
 import array
 import sys
 from pathlib import Path

@@ -24,13 +24,13 @@ def is_lyrics(content: bytes) -> bool:
 
 
 def is_script(content: bytes) -> bool:
-    """Whether a file looks like a picture script."""
+    """Whether a file resembles a picture script."""
     looks = kinds.SCRIPT.looks
     return bool(looks and looks(content[: kinds.LOOKED_AT], len(content)) and _LINES_OF_SCRIPTS.search(content))
 
 
 def is_sheet(content: bytes) -> bool:
-    """Whether a file looks like a cue sheet."""
+    """Whether a file resembles a cue sheet."""
     looks = kinds.CUE.looks
     return bool(looks and looks(content[: kinds.LOOKED_AT], len(content)) and _LINES_OF_SHEETS.search(content))
 

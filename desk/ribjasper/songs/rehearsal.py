@@ -1,5 +1,5 @@
-"""The pictures of a score while it is edited: its packs, what of it is late, and notes; made in the background, always of
-the newest score."""
+"""The pictures of a score during editing: its packs, its late rows, and notes; made in the background, always from the
+newest score."""
 import threading
 from dataclasses import dataclass, field, replace
 from pathlib import Path
@@ -22,7 +22,7 @@ from .tracks import as_pair, track_packs
 
 @dataclass
 class Late:
-    """A row that cannot be shown at its time: the number of its line, what is wrong, and by how many seconds."""
+    """A row that cannot be shown at its time: the number of its line, the problem, and the delay in seconds."""
 
     line: int
     what: str
@@ -31,7 +31,8 @@ class Late:
 
 @dataclass
 class Rehearsed:
-    """What became of a score: the packs of its .cdg file, what is late, notes, and why there is nothing if so."""
+    """The result for a score: the packs of its .cdg file, the late rows, notes, and the reason if there are no
+    packs."""
 
     revision: int
     packs: bytes = b""
@@ -43,7 +44,7 @@ class Rehearsed:
     song: Song | None = None
 
     def table(self) -> dict[str, Any]:
-        """All but the packs."""
+        """All results except the packs."""
         late = [{"line": one.line, "what": one.what, "seconds": one.seconds} for one in self.late]
         return {
             "revision": self.revision,
@@ -56,7 +57,7 @@ class Rehearsed:
 
 
 def wishes_for(look: Look, folder: Path, end: int) -> Wishes:
-    """What the look of a score asks of a script; its files are in the folder of the song."""
+    """The options for a script that follow from the look of a score; its files are in the folder of the song."""
     style = read_style(look.style if look.style in shipped() else str(folder / look.style))
     return Wishes(
         style=replace(style, rows=look.rows) if look.rows else style,
@@ -73,7 +74,7 @@ def wishes_for(look: Look, folder: Path, end: int) -> Wishes:
 
 
 def late_of(made: Made) -> list[Late]:
-    """What of a song is late, line by line."""
+    """The late rows of a song, line by line."""
     found: list[Late] = []
 
     def add(placed: Placed, what: str, blocks: int = 0) -> None:
@@ -93,7 +94,7 @@ def late_of(made: Made) -> list[Late]:
 
 
 def rehearsed(revision: int, score: Score, like: Song, sound: Path, known: Known | None = None) -> Rehearsed:
-    """The packs of a score with its sound, or why there are none."""
+    """The packs of a score with its sound, or the reason why there are none."""
     try:
         return score_pictures(revision, score, like, sound, known)
     except Exception as error:
@@ -116,7 +117,7 @@ def score_pictures(revision: int, score: Score, like: Song, sound: Path, known: 
 
 
 class Rehearsal:
-    """Makes the packs of the newest score in a thread of its own."""
+    """Makes the packs of the newest score in a separate thread."""
 
     def __init__(self, make: Callable[[int, Score], Rehearsed]) -> None:
         self.make, self.changed = make, threading.Condition()
@@ -145,7 +146,7 @@ class Rehearsal:
                 self.changed.notify_all()
 
     def wait(self, revision: int, seconds: float) -> Rehearsed | None:
-        """What was made of a revision or of a later one; nothing if that takes longer."""
+        """The result for a revision or a later one; None if that takes longer."""
         with self.changed:
             self.changed.wait_for(lambda: self.is_over or bool(self.done and self.done.revision >= revision), seconds)
             return self.done if self.done and self.done.revision >= revision else None

@@ -1,5 +1,5 @@
-"""A song while it is edited: an immutable score, whose words may have no times yet. Two scores that hold the same are
-equal, and a score without changes gives back the files that it was opened from."""
+"""A song during editing: an immutable score, whose words may have no times yet. Two scores with the same content are
+equal, and a score without changes reproduces the files from which it was opened."""
 import re
 from dataclasses import dataclass, field
 from typing import Any, Iterable, NamedTuple
@@ -15,7 +15,7 @@ HEADING = re.compile(r"\[[^\[\]]*\]|\([^()]*\)\s*:")
 
 @dataclass(frozen=True)
 class Word:
-    """A syllable or a word, with blanks around it; its times are seconds of the sound, or None before it is timed."""
+    """A syllable or a word, with spaces around it; its times are seconds of the sound, or None before it is timed."""
 
     text: str
     start: float | None = None
@@ -57,7 +57,7 @@ class ScoreLine:
 
 
 class Picture(NamedTuple):
-    """A picture or a colour between verses; without a time it comes after the line that begins at `after`."""
+    """A picture or a colour between verses; without a time, it follows the line that begins at `after`."""
 
     what: str
     start: float | None
@@ -92,7 +92,7 @@ class Look:
 
 @dataclass(frozen=True)
 class Score:
-    """All of a song that can be edited."""
+    """Everything in a song that can be edited."""
 
     lines: tuple[ScoreLine, ...]
     title: str = ""
@@ -103,7 +103,7 @@ class Score:
     look: Look = field(default_factory=Look)
 
     def place_of(self, key: int) -> int:
-        """Where the line with a key is; a KeyError if there is none."""
+        """The place of the line with a key; a KeyError if there is none."""
         for place, line in enumerate(self.lines):
             if line.key == key:
                 return place
@@ -111,22 +111,22 @@ class Score:
 
     @property
     def untimed(self) -> list[int]:
-        """The numbers of the lines whose words do not all have times."""
+        """The numbers of the lines in which some words have no times."""
         return [number for number, line in enumerate(self.lines, 1) if not line.is_timed]
 
 
-# The least and the most of the numbers of a look, as the options of the commands have them.
+# The limits of the numbers in a look, as in the options of the commands.
 RANGES = {"rows": (LEAST_ROWS, MOST_ROWS), "size": (LEAST_SIZE, MOST_SIZE), "lead": (0, 60), "intro": (0, 600)}
 
 
 def look_of(table: dict[str, Any]) -> Look:
-    """The look that a table holds; what it does not name, or what does not fit, is the default."""
+    """The look in a table; missing and invalid values are the defaults."""
     found = {name: value for name, value in table.items() if value is not None and fits(name, value)}
     return Look(**{name: tuple(value) if isinstance(value, list) else value for name, value in found.items()})
 
 
 def fits(name: str, value: Any) -> bool:
-    """Whether a look may have a value. Files are named by their names in the folder of the song."""
+    """Whether a value is valid for a look. Files are named by their names in the folder of the song."""
     if name in RANGES:
         least, most = RANGES[name]
         kinds = (int,) if name in ("rows", "size") else (int, float)
@@ -139,7 +139,7 @@ def fits(name: str, value: Any) -> bool:
 
 
 def is_own_name(name: str) -> bool:
-    """Whether a name is that of a file in the folder of the song, or a colour."""
+    """Whether a name is the name of a file in the folder of the song, or a colour."""
     return bool(name) and not any(mark in name for mark in "/\\\0") and name not in (".", "..")
 
 
@@ -173,7 +173,7 @@ def split_words(text: str) -> list[str]:
 
 
 def score_of_text(text: str, song: Song) -> Score:
-    """The score of a text without times: a line for each row that is sung. A page begins behind an empty row."""
+    """The score of a text without times: a line for each row that is sung. A page begins after an empty row."""
     lines: list[ScoreLine] = []
     is_new_page = False
     for row in (row.strip() for row in text.splitlines()):
@@ -187,7 +187,7 @@ def score_of_text(text: str, song: Song) -> Score:
 
 
 def filled(words: Iterable[Word]) -> list[Syllable]:
-    """Words as syllables of a song; those without times come at the end of those with times."""
+    """Words as syllables of a song; those without times are placed at the end of those with times."""
     made, now = list[Syllable](), 0.0
     for word in words:
         start = now if word.start is None else word.start
@@ -198,8 +198,7 @@ def filled(words: Iterable[Word]) -> list[Syllable]:
 
 
 def song_of(score: Score, like: Song) -> Song:
-    """The song of a score, whose lines have the numbers of the score; a line whose first word has no time is left
-    out."""
+    """The song of a score, whose lines have the numbers of the score, without lines whose first word has no time."""
     lines = [
         Line(number, filled(one.words), one.is_whole, written(one), one.until, one.new_page)
         for number, one in enumerate(score.lines, 1)
@@ -225,20 +224,20 @@ def written(line: ScoreLine) -> str:
 
 
 def document_for(score: Score, opened: Document, first: Score) -> Document:
-    """The document that saves a score. The score that was opened is saved as the files that it was opened from."""
+    """The document that saves a score. The score that was opened is saved as the files from which it was opened."""
     if score == first:
         return opened
     return Document(song_of(score, opened.song), list(score.rests), opened.others, look=score.look.table())
 
 
 def last_end(start: float, following: float | None) -> float:
-    """Where the last word of a line is taken to end that begins at a time."""
+    """The estimated end of the last word of a line that begins at a time."""
     last = start + LONGEST_WORD
     return last if following is None else max(start, min(last, following))
 
 
 def opened_line(words: tuple[Word, ...], following: float | None) -> tuple[tuple[Word, ...], float | None]:
-    """The words of a line with one time and without an end, and until when it stays."""
+    """The words of a line with one time and without an end, and the time until which it remains."""
     line = open_line(Line(0, filled(words), True), following)
     last, end = line.syllables[-1], round(line.end, 3)
     until = end if line.until == line.end else line.until

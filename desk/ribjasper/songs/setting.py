@@ -10,8 +10,8 @@ from ..drawing.raster import HEIGHT, TILE_HEIGHT, WIDTH
 from ..drawing.styles import INKS, Inks
 from .songs import BOTH, FIRST, Line, SECOND, Syllable
 
-# Pixels that stay free at each side, and the smallest letters for a word that is too long for a line. A word that would
-# need still smaller ones than this part of the others is broken.
+# Pixels that stay free at each side; the size of the smallest letters for a word that is too long for a line. A word
+# that would need letters smaller than this part of the others is broken.
 MARGIN, SMALLEST, LEAST_PART = 6, 9, 0.75
 ROOM = WIDTH - 2 * MARGIN
 # A word with the blanks around it.
@@ -20,7 +20,7 @@ PIECE = re.compile(r"\s*\S+\s*")
 
 @dataclass
 class SungPart:
-    """A syllable, or what of it has one direction, and its first pixel and the one behind its last."""
+    """A syllable, or a part of it with one direction; its first pixel, and the pixel after its last one."""
 
     syllable: Syllable
     left: int
@@ -30,8 +30,8 @@ class SungPart:
 
 @dataclass
 class Letters:
-    """A row of a line on the screen: the numbers of its pixels, 0 where the ground is seen, and its
-    syllables in the order of reading."""
+    """A row of a line on the screen: the numbers of its pixels, 0 where the background is visible, and its syllables in
+    the order of reading."""
 
     line: Line
     rows: list[bytes]
@@ -47,7 +47,8 @@ class Letters:
 
 
 def words_of(line: Line) -> list[list[Syllable]]:
-    """The syllables of a line, word by word; one that holds several words is one for each, sung at the same time."""
+    """The syllables of a line, word by word; a syllable with several words becomes one for each, sung at the same
+    time."""
     words: list[list[Syllable]] = []
     is_new = True
     for syllable in line.syllables:
@@ -61,7 +62,7 @@ def words_of(line: Line) -> list[list[Syllable]]:
 
 
 def is_wide(letter: str) -> bool:
-    """Whether a line may be broken behind a letter: one of those that are written without blanks between words."""
+    """Whether a line may be broken after a letter of a script that is written without spaces between words."""
     return unicodedata.east_asian_width(letter) in "WF"
 
 
@@ -77,12 +78,13 @@ def word_pieces(text: str) -> list[str]:
 
 
 def is_closing(letter: str) -> bool:
-    """Whether no line begins with a letter: blanks, marks and signs that belong to what comes before them."""
+    """Whether a line must not begin with this letter: spaces, marks and signs that belong to the text before them."""
     return letter.isspace() or unicodedata.category(letter) in ("Pe", "Pf", "Po", "Mn", "Lm")
 
 
 def spelled_with(text: str, font: Font, has_boxes: bool) -> str:
-    """A text without the letters that no font has, or with a box for each; what only joins or changes them goes too."""
+    """A text without letters that no font has, or with a box for each; letters that only join or modify them are
+    removed."""
     missing = font.missing(text)
     if not missing:
         return text
@@ -100,12 +102,12 @@ def text_of_words(words: list[list[Syllable]]) -> str:
 
 
 def fits_in_row(words: list[list[Syllable]], font: Font, room: float) -> bool:
-    """Whether all words have room in one row."""
+    """Whether all words fit into one row."""
     return font.width(text_of_words(words), font.size) <= room
 
 
 def unbroken_words(line: Line, font: Font) -> list[list[Syllable]]:
-    """The words of a line, those that are much too long for a row in pieces."""
+    """The words of a line; words that are much too long for a row are in pieces."""
     return [part for word in words_of(line) for part in broken_word(word, font)]
 
 
@@ -132,8 +134,8 @@ def broken_word(word: list[Syllable], font: Font) -> list[list[Syllable]]:
 
 
 def lettered(syllable: Syllable) -> list[tuple[Syllable, Syllable]]:
-    """A syllable letter by letter, marks with the letter that they belong to, sung one after the other; each with the
-    syllable that it is of."""
+    """A syllable letter by letter, with marks joined to their letters, sung one after another; each with the syllable
+    to which it belongs."""
     letters: list[str] = []
     for letter in syllable.text:
         if letters and (unicodedata.category(letter) in ("Mn", "Mc", "Me", "Cf") or letter.isspace()):
@@ -148,7 +150,7 @@ def lettered(syllable: Syllable) -> list[tuple[Syllable, Syllable]]:
 
 
 def joined_letters(letters: list[Syllable]) -> list[Syllable]:
-    """Letters of a piece as one syllable where one follows the other without a break."""
+    """Letters of a piece, joined into one syllable if they follow each other without a pause."""
     joined: list[Syllable] = []
     for letter in letters:
         last = joined[-1] if joined else None
@@ -160,7 +162,7 @@ def joined_letters(letters: list[Syllable]) -> list[Syllable]:
 
 
 def wrapped(line: Line, font: Font) -> list[list[list[Syllable]]]:
-    """The words of a line in as few rows as they need, and these as even as they can be."""
+    """The words of a line in as few rows as possible, which are as even as possible."""
     font = font.of(line.voice)
     words = unbroken_words(line, font)
     count = len(filled_rows(words, font, ROOM))
@@ -168,14 +170,14 @@ def wrapped(line: Line, font: Font) -> list[list[list[Syllable]]]:
         return [words]
     widest = max(font.width(text_of_words([word]), font.size) for word in words)
     limits = [ROOM * step / 40 for step in range(1, 41)]
-    # The fewer rows, the wider they are: the least width that does with as many is looked for by halves.
+    # Fewer rows are wider: the least width with this number of rows is found by bisection.
     even = bisect.bisect_left(limits, -count, key=lambda limit: -len(filled_rows(words, font, limit)))
     return sung_later(filled_rows(words, font, max(widest, limits[min(even, len(limits) - 1)])))
 
 
 def sung_later(rows: list[list[list[Syllable]]]) -> list[list[list[Syllable]]]:
-    """The same rows; where words on several of them have one time, those on a later row are sung
-    later, in proportion to the letters before them."""
+    """The same rows; if words on several rows have the same time, those on later rows are sung later, in proportion to
+    the letters before them."""
     for number, row in enumerate(rows[:-1]):
         last = row[-1][-1]
         here = [syllable for word in row for syllable in word if syllable.start == last.start]
@@ -199,7 +201,7 @@ def filled_rows(words: list[list[Syllable]], font: Font, room: float) -> list[li
     """The words in rows, each row as full as it can be."""
     rows: list[list[list[Syllable]]] = []
     while words:
-        # More words are wider, so the first number of them that has no room is looked for by halves.
+        # More words are wider, so the first number of them that does not fit is found by bisection.
         count = min(len(words), ROOM)
         if not fits_in_row(words[:count], font, room):
             count = (
@@ -233,7 +235,7 @@ class Setter:
         if self.height > HEIGHT:
             raise Refusal(font.paths[0], f"its letters of {font.size} pixels are {self.height} pixels high")
         if has_both:
-            # Lower by as much as brings the middle of small letters next to the edge of tiles.
+            # Lower by the distance that brings the middle of small letters next to the edge of tiles.
             self.above += min(range(self.height - high + 1), key=lambda lower: abs(self.middle + lower - TILE_HEIGHT))
 
     def of(self, voice: int) -> Font:
@@ -273,12 +275,12 @@ class Setter:
         return outlined(rows, self.inks) if self.has_outline else rows
 
     def table(self, voice: int, y: int, font: Font) -> bytes:
-        """The number for each light of a pixel; letters of all voices have the colours of the first two."""
+        """The number for each lightness of a pixel; letters of all voices have the colours of the first two."""
         shown = (FIRST if y < self.half() else SECOND) if voice == BOTH else voice
         return self.inks.levelled(shown, font.is_plain)
 
     def half(self) -> int:
-        """From which pixel row on letters of both voices have the colours of the second: the edge of tiles that is
+        """The pixel row from which on letters of both voices have the colours of the second: the edge of tiles that is
         nearest to the middle of small letters."""
         return TILE_HEIGHT * min(max(1, round(self.middle / TILE_HEIGHT)), max(1, self.tile_rows - 1))
 
@@ -299,7 +301,7 @@ def parts_of_text(syllables: list[Syllable], text: str, font: Font, left: int, s
         for number, (begin, end, one, other, is_leftward) in enumerate(found):
             start, until = (syllable.start + long * letters / count for letters in (done, done + end - begin))
             done += end - begin
-            # Blanks between two parts belong to the one in front of them.
+            # Spaces between two parts belong to the first one.
             following = found[number + 1][0] if number + 1 < len(found) else last
             spelled = syllable.text if len(found) == 1 else text[begin if number else first : following]
             piece = Syllable(spelled, start, until, syllable.voice)

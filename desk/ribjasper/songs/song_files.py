@@ -21,13 +21,13 @@ NOTES = re.compile(r"^[:*]\s*-?\d+\s+\d+\s+-?\d+", re.MULTILINE)
 STRETCH = re.compile("^" + TIMES.pattern, re.MULTILINE)
 PICTURE = re.compile(r"\[(?:image|picture):([^\]\n\0]+)\]", re.IGNORECASE)
 WEB_VTT = re.compile(r"\ufeff?WEBVTT(\s|$)")
-# The seconds that the longest disc has; the letters that a line may have, and the lines that a song may have.
+# The length of the longest disc in seconds; the greatest number of letters in a line, and of lines in a song.
 LONGEST_SONG = 99 * 60
 MOST_LETTERS, MOST_LINES = 2_000, 10_000
 
 
 def encoding_for(content: bytes, song: Song, asked: str | None) -> str:
-    """The encoding of a text, which is reported if it is not UTF-8; a guess is called one."""
+    """The encoding of a text, which is reported if it is not UTF-8; a guess is reported as a guess."""
     if asked:
         if not decodes(content, asked):
             raise Refusal(song.path, f"is not encoded as {asked}: {why_not(content, asked)}")
@@ -48,7 +48,7 @@ def encoding_for(content: bytes, song: Song, asked: str | None) -> str:
 
 
 def why_not(content: bytes, name: str) -> str:
-    """Where a text is not of an encoding."""
+    """The place at which a text is not valid in an encoding."""
     try:
         content.decode(name)
     except UnicodeDecodeError as wrong:
@@ -87,7 +87,7 @@ def companion_of(path: Path) -> Path | None:
 
 
 def parsed_song(path: Path, content: bytes, toml: bytes | None, encoding: str | None) -> tuple[Song, bool]:
-    """The song that a file holds, and whether it is LRC."""
+    """The song in a file, and whether the file is LRC."""
     song, is_lrc = Song([], path=path), False
     if content.startswith(b"MThd"):
         read_kar(content, song, lambda texts: decoded_texts(texts, song, encoding))
@@ -135,7 +135,7 @@ def decoded_texts(texts: list[bytes], song: Song, encoding: str | None) -> list[
 
 
 def put_in_order(song: Song) -> None:
-    """Lines in the order of their times; those whose words go back, or that no disc is long enough for, are faults."""
+    """Sorts the lines by their times; lines whose words go back in time, or exceed the length of a disc, are errors."""
     song.lines.sort(key=lambda line: line.start)
     if len(song.lines) > MOST_LINES:
         song.faults = [f"there are {len(song.lines):,} lines that are sung, and {MOST_LINES:,} are the most"]
@@ -155,7 +155,7 @@ def put_in_order(song: Song) -> None:
 
 
 def clip(song: Song) -> None:
-    """What would be sung before the audio begins is sung from its beginning on, or left out where it would be over."""
+    """Moves words before the beginning of the audio to its beginning, or drops them if they would be over by then."""
     kept = []
     for line in song.lines:
         if line.end <= 0:

@@ -1,4 +1,4 @@
-"""The script of a song: a title, its pages, and what is lit when, so that the plan finds nothing late."""
+"""The script of a song: a title, its pages, and the times at which words are lit, so that no picture is late."""
 import bisect
 import functools
 import itertools
@@ -33,23 +33,23 @@ from .timeline import (
 )  # fmt: skip
 
 BLOCKS = BLOCKS_A_SECOND
-# A black picture is held through the pause, so that all that is drawn comes with the audio; the four packs that set it
-# have room behind the pause, and so have two more.
+# A black picture is held through the pause, so that all drawing begins with the audio; the four packs that set it fit
+# behind the pause, and so do two more.
 BEGIN = times.PAUSE + 4
 THROUGH_PAUSE = f"show 00:00:20 {spelled(BEGIN)}"
 # The blocks of audio that the longest disc has behind its pause.
 LONGEST_AUDIO = 449_999 - times.PAUSE
-# A line stays this long when it is sung; a title and a legend are shown so long at least, and are gone so long before
-# the first word; a last page comes if it can be shown so long.
+# A line stays STAYS blocks after it is sung. A title and a legend are shown for at least TITLE_STAYS, and disappear
+# BEFORE_FIRST before the first word; a last page is shown if it can remain for LAST_STAYS.
 STAYS, TITLE_STAYS, BEFORE_FIRST = BLOCKS // 5, 2 * BLOCKS, 3 * BLOCKS
 LAST_STAYS = 3 * BLOCKS
-# More letters of a title than a page has room for.
+# More letters of a title than fit onto a page.
 LONGEST_TITLE = 1_000
 # Losses and numbers of colours that are tried until a title needs few enough packs, and the loss of a background.
 TITLE_LOSSES = ((PLAIN, 16), (12.0, 16), (30.0, 12), (60.0, 8), (120.0, 4))
 BACKGROUND_LOSS = 30.0
-# Sizes of letters, and by how much the rows may be more for the sake of larger ones; and smaller sizes, which are taken
-# where most lines would be broken and are not with them.
+# The sizes of letters, and the factor of rows that is accepted for the sake of larger letters; and smaller sizes, which
+# are used if otherwise most lines would be broken.
 SIZES, SMALLER_SIZES, MORE_ROWS = range(24, 15, -1), range(15, 12, -1), 1.1
 # If at most one in FEW_LATE rows is late, or a single row, the letters keep their size.
 FEW_LATE = 20
@@ -60,7 +60,7 @@ ROUNDS = 8
 # A line is drawn this number of seconds before it is sung, or earlier if lines would be late otherwise (None: as early
 # as there is room). If that is not enough, lines whose end is a guess disappear as soon as they are lit.
 LEAD = 4.0
-# At last columns of a sweep are lit two by two, which takes fewer blocks.
+# In the last trials, the columns of a sweep are lit in pairs, which takes fewer blocks.
 Trial = tuple[float | None, bool, bool]
 TRIALS: tuple[Trial, ...] = (
     (LEAD, True, False),
@@ -70,9 +70,9 @@ TRIALS: tuple[Trial, ...] = (
     (LEAD, True, True),
     (None, False, True),
 )
-# So much room is left between a picture and the first line of the verse behind it.
+# The least time between a picture and the first line of the verse after it.
 BEFORE_VERSE = round((LEAD + 1.5) * BLOCKS)
-# What is to be done with letters that no font has.
+# What to do with letters that no font has.
 LEAVE, BOXES = "leave", "box"
 
 
@@ -99,7 +99,7 @@ class Wishes:
 
 @dataclass
 class Made:
-    """A script, what of the song is not shown at its time, and notes."""
+    """A script, the delays of the song in it, and notes."""
 
     lines: list[str]
     lateness: Lateness
@@ -109,7 +109,7 @@ class Made:
         return "".join(f"{line}\n" for line in self.lines).encode()
 
     def warnings(self) -> Iterable[str]:
-        """A line for each row of the song that cannot be shown at its time, and for what was left out or changed."""
+        """A line for each row of the song that cannot be shown at its time, and for each omission or change."""
         path = self.maker.song.path
         yield from self.maker.notes
 
@@ -150,7 +150,7 @@ def plan_of(lines: list[str], length: int = LONGEST_AUDIO) -> Plan:
 
 
 def steps_of(pages: list[SongPage], dues: list[Due]) -> list[ColumnStep]:
-    """All steps in an order in which each is drawn on what it will be drawn on later."""
+    """All steps in an order in which the picture before each step is the one on which it will be drawn."""
     lights: dict[Placed, list[ColumnStep]] = {}
     for due in dues:
         lights.setdefault(due.placed, []).extend(due.steps)
@@ -158,7 +158,7 @@ def steps_of(pages: list[SongPage], dues: list[Due]) -> list[ColumnStep]:
 
 
 def ask_needs(steps: Sequence[ColumnStep], ground: Raster, known: Known | None = None) -> None:
-    """Asks the plan how many packs each step needs, one after the other; what is known is not asked for."""
+    """Asks the plan how many packs each step needs, one after another, except for known needs."""
     if known:
         ask_known(steps, ground, known, lambda lines: plan_of(lines).rows)
         return
@@ -167,7 +167,7 @@ def ask_needs(steps: Sequence[ColumnStep], ground: Raster, known: Known | None =
         part = steps[at : at + MOST_PICTURES - 1]
         lines = [*lines_between(Raster(), ground), "show 00:01:00 00:01:00"]
         numbers = itertools.count(times.blocks("00:01:01"))
-        # Steps of one kind at one place bring the same rows, and only those that differ are compared.
+        # Steps of one kind at one place draw the same rows, and only those that differ are compared.
         for _, alike in itertools.groupby(part, key=lambda step: (step.placed, type(step))):
             some = list(alike)
             rows = some[0].differing(ground)
@@ -178,7 +178,7 @@ def ask_needs(steps: Sequence[ColumnStep], ground: Raster, known: Known | None =
 
 
 def ask_shows(shows: Sequence[Show], ground: Raster) -> None:
-    """The same of whole pages."""
+    """The same for whole pages."""
     lines = [*lines_between(Raster(), ground), "show 00:01:00 00:01:00"]
     for number, show in enumerate(shows, times.blocks("00:01:01")):
         lines += [*lines_between(ground, show.picture), f"show {spelled(number)} {spelled(number)}"]
@@ -188,7 +188,7 @@ def ask_shows(shows: Sequence[Show], ground: Raster) -> None:
 
 
 def empty_page(style: Style, voices: int) -> Raster:
-    """A page before anything is drawn on it: the ground, or the picture behind the text in the colours that it may
+    """A page before anything is drawn on it: the background, or the picture behind the text in the colours that it may
     have."""
     raster = style.empty(voices)
     if not style.background:
@@ -249,7 +249,7 @@ Words = list[list[Syllable]]
 
 
 def broken(lines: list[Line], font: Font) -> int:
-    """How many lines need more than one row."""
+    """The number of lines that need more than one row."""
     return sum(not fits_in_row(unbroken_words(line, font.of(line.voice)), font.of(line.voice), ROOM) for line in lines)
 
 
@@ -330,7 +330,7 @@ def fonts_for(song: Song, wishes: Wishes, notes: list[str]) -> list[Font]:
 
 
 def unbroken(song: Song, lines: list[Line], font: Font, notes: list[str], is_asked: bool) -> Font:
-    """The font in a smaller size, where that keeps most lines whole and this one does not."""
+    """The font in a smaller size, if most lines are whole in that size and not in this one."""
     count = len(lines)
     if 2 * broken(lines, font) <= count:
         return font
@@ -366,7 +366,7 @@ def lines_of(steps: Sequence[Step], raster: Raster) -> list[str]:
 
 
 def changed_by(part: ColumnStep, raster: Raster) -> Iterator[Span]:
-    """Brings the columns of a step, and gives for each row the stretch that changes."""
+    """Draws the columns of a step, and returns the stretch that changes in each row."""
     for number, row in part.rows():
         drawn, new = raster.rows[number], row[part.left : part.right]
         old = bytes(drawn[part.left : part.right])
@@ -379,7 +379,7 @@ def changed_by(part: ColumnStep, raster: Raster) -> Iterator[Span]:
 
 
 def merged(parts: Sequence[ColumnStep]) -> list[ColumnStep]:
-    """The same steps with one in place of those of one kind and one place whose columns are side by side."""
+    """The same steps, with adjacent columns of one kind and one place merged into one step."""
     kept: list[ColumnStep] = []
     for part in parts:
         last = kept[-1] if kept else None
@@ -397,7 +397,7 @@ def picture_in(path: Path, most: int, loss: float) -> Raster:
 
 
 def filled_with(word: str, ground: Raster) -> Raster | None:
-    """A page of one colour, if the word is one."""
+    """A page of one colour, if the text is a colour."""
     colour = read_colour(word) if word.startswith("#") else None
     if colour is None:
         return None
@@ -408,8 +408,8 @@ def filled_with(word: str, ground: Raster) -> Raster | None:
 
 @dataclass
 class Verse:
-    """Lines between two pictures: the pages of them, when they are lit, and the picture in front of them: its show, and
-    the blocks between which it is shown."""
+    """The lines between two pictures: their pages, the times at which they are lit, and the picture before them: its
+    show, and the blocks between which it is shown."""
 
     lines: list[Line]
     what: str = ""
@@ -422,8 +422,8 @@ class Verse:
 
 
 def verses_of(song: Song, between: Sequence[str]) -> list[Verse]:
-    """The verses of a song: a picture of the file divides lines at its place, or at its time; others are shown in the
-    long rests that have none, one after the other."""
+    """The verses of a song: a picture in the file divides lines at its place, or at its time; other pictures are shown
+    one after another in the long rests without a picture."""
     starts = [line.start for line in song.lines]
     found: dict[int, tuple[str, int]] = {}
     for one in song.inserts:
@@ -478,7 +478,7 @@ class Maker:
         return sorted((due for placed in sung for due in dues_of(placed, self.wishes.sweep)), key=lambda due: due.block)
 
     def with_pictures(self, verses: list[Verse]) -> list[Verse]:
-        """The verses with the pictures in front of them; without room for one, two verses become one."""
+        """The verses with the pictures before them; if there is no time for a picture, two verses become one."""
         kept: list[Verse] = []
         for verse in verses:
             if not verse.what:
@@ -501,7 +501,7 @@ class Maker:
         self.notes.append(f"{self.song.path}: {place}{what}")
 
     def has_room(self, before: list[Verse], verse: Verse) -> bool:
-        """Whether the picture of a verse is shown long enough between the lines in front of it and its own."""
+        """Whether the picture of a verse is shown long enough between the lines before it and its own."""
         end = max(line.stays for one in before for line in one.lines)
         verse.begin = times.nearest_block(end) + STAYS + BLOCKS // 2
         last = self.wishes.end or FOREVER
@@ -523,7 +523,7 @@ class Maker:
         return False
 
     def last_page(self) -> list[Group]:
-        """A page that ends the song with its title, where its audio leaves time for it."""
+        """A page that ends the song with its title, if the audio leaves time for it."""
         texts = [text[:LONGEST_TITLE] for text in (self.song.title, self.song.performer) if text]
         sung = max(line.stays for line in self.song.lines)
         end, begin = self.wishes.end, times.nearest_block(sung + GOES)
@@ -539,15 +539,15 @@ class Maker:
         return [page] if len(page.rows) <= self.style.rows else []
 
     def legend(self) -> list[Text]:
-        """The singers in their colours."""
+        """A legend: the singers in their colours."""
         ordinals = ("first voice", "second voice", "third voice", "fourth voice")
         names = [*self.song.singers, "", "", "", ""]
         found = [(names[voice] or ordinals[voice], voice, 0) for voice in range(self.song.voices)]
         return [*found, ("both" if self.song.voices == 2 else "all", BOTH, 0)] if self.song.has_both else found
 
     def title_steps(self) -> list[Show]:
-        """The title, in as many colours and details as there is room for it, and a legend; or none. A title that is a
-        text has the legend below it."""
+        """The title, in as many colours and details as there is time for, and a legend; or none. A title that is a text
+        has the legend below it."""
         image, path = self.title, self.song.path
         has_legend = self.wishes.legend and self.song.voices > 1
         if self.wishes.legend and not has_legend:
@@ -582,7 +582,7 @@ class Maker:
         return shows
 
     def more_room(self, shows: list[Show]) -> str:
-        """What makes room for pages in front of the first words."""
+        """A hint how to make time for pages before the first words."""
         short = math.ceil(-self.room_for(shows) / BLOCKS + self.wishes.intro)
         return f"; --intro {short} makes room for it" if short > 0 else ""
 
@@ -590,13 +590,13 @@ class Maker:
         return Show(page_of_texts(lines, self.ground, self.font, self.style, self.song.voices))
 
     def room_for(self, shows: list[Show]) -> int:
-        """How many blocks are left where these pages and then the empty one come before the first words."""
+        """The number of blocks that remain before the first words if these pages and then the empty one are shown."""
         ask_shows([*shows, self.empty], Raster())
         needs: int = sum(TITLE_STAYS + blocks_for([show]) for show in shows)
         return self.page_begin - BEGIN - needs - blocks_for([self.empty])
 
     def arranged(self, lead: float | None, stays: bool, is_paired: bool) -> tuple[list[SentPicture], Lateness]:
-        """All steps on a line of time, as far as their needs are known."""
+        """All steps on a timeline, as far as their needs are known."""
         line = Timeline(BEGIN)
         begin = self.page_begin - blocks_for([self.empty])
         if self.shows:
@@ -617,7 +617,7 @@ class Maker:
         return line.pictures, lateness
 
     def script(self, pictures: list[SentPicture], end: int | None) -> list[str]:
-        """The lines of the script; what comes after the end of the audio is left out where it only clears the page."""
+        """The lines of the script; pictures after the end of the audio are left out if they only clear the page."""
         lines = [f"# {shown(str(self.song.path))}, by the lines of its lyrics.", THROUGH_PAUSE]
         raster = Raster()
         for number, picture in enumerate(pictures):
@@ -631,7 +631,7 @@ class Maker:
         for _ in range(ROUNDS):
             pictures, lateness = self.arranged(lead, stays, is_paired)
             pictures = within(pictures, self.wishes.end, lateness)
-            # A script has one more, which is held through the pause.
+            # A script has one more picture, which is held through the pause.
             if len(pictures) >= MOST_PICTURES:
                 raise Refusal(
                     self.song.path,
@@ -648,8 +648,8 @@ class Maker:
         raise Refusal(self.song.path, f"{len(found.late())} pictures stay late")
 
     def made(self) -> Made:
-        """The script. Pages that go as a whole leave no time for a row of the next one where that follows quickly: its
-        rows then come one by one, which is reported."""
+        """The script. If pages change as a whole, a row of a page that follows quickly may be late: the rows of that
+        page then appear one by one, which is reported."""
         made = self.by_lead()
         late = made.lateness.rows()
         quick = [page for page in self.pages if late.intersection(page.placed)] if self.style.by_page else []
@@ -672,7 +672,7 @@ class Maker:
         )
 
     def by_lead(self) -> Made:
-        """The script with the lead that is asked for, or with the shortest one with which nothing is late."""
+        """The script with the requested lead, or with the shortest one with which nothing is late."""
         lead = self.wishes.lead
         tried: list[Made] = []
         trials = TRIALS
@@ -689,7 +689,7 @@ class Maker:
 
 
 def dues_of_rows(rows: list[Placed]) -> dict[Placed, int]:
-    """For each row the block at which it, or one behind it in the order of drawing, is sung first."""
+    """For each row, the block at which it, or a row after it in the order of drawing, is sung first."""
     due, soonest = dict[Placed, int](), FOREVER
     for placed in reversed(rows):
         if placed.is_sung:
@@ -714,7 +714,7 @@ def tasks_of(pages: list[SongPage], begin: int, style: Style, lead: float | None
         return times.nearest_block(placed.end if stays else placed.lit_end) + STAYS
 
     def free_from(placed: Placed, waits: bool) -> int:
-        """When its place is free, and the row a page in front of it is sung, or that whole page."""
+        """The time when its place is free, and the row one page before it is sung, or that whole page."""
         stood = [placed.before, ahead.get(placed)]
         ends = [free_at(one) for one in stood if one]
         soonest: int = max([begin, times.nearest_block(placed.begin), before_page * waits, *ends])
@@ -743,7 +743,7 @@ def tasks_of(pages: list[SongPage], begin: int, style: Style, lead: float | None
                 continue
             goes = max(begin, gone if waits else times.nearest_block(placed.end + GOES))
             if placed.before and not placed.before.is_sung:
-                # What is not sung goes before the first line of the verse comes.
+                # Text that is not sung disappears before the first line of the verse appears.
                 goes = max(begin, times.nearest_block(placed.end))
                 tasks.append(Task(placed, list(placed.draws), goes, goes))
             elif placed in follows:
@@ -758,8 +758,8 @@ def tasks_of(pages: list[SongPage], begin: int, style: Style, lead: float | None
 
 
 def within(pictures: list[SentPicture], end: int | None, lateness: Lateness) -> list[SentPicture]:
-    """Without what comes after the end of the audio; where that is more than what clears the page or ends the song, its
-    lines are reported."""
+    """Drops pictures after the end of the audio; if they do more than clear the page or end the song, their lines are
+    reported."""
     if end is None:
         return pictures
     for picture in pictures:
@@ -770,7 +770,8 @@ def within(pictures: list[SentPicture], end: int | None, lateness: Lateness) -> 
 
 
 def end_with_sound(song: Song, end: int) -> None:
-    """Names all lines that are sung after the end of the audio; those that are sung until then end a little earlier."""
+    """Reports all lines that are sung after the end of the audio; those that are sung until then end a little
+    earlier."""
     seconds = (end - times.PAUSE) / BLOCKS
     causes = []
     for line in song.lines:
@@ -791,8 +792,8 @@ def end_with_sound(song: Song, end: int) -> None:
 
 
 def best(song: Song, wishes: Wishes, known: Known | None = None) -> Made:
-    """The script in the first font in which hardly a row of the song is late, or else that in which least is. Needs
-    that are known of another script are not asked for again."""
+    """The script in the first font with which hardly any row of the song is late, or else the one with the fewest late
+    rows. Needs that are known from another script are not planned again."""
     made: list[Made] = []
     notes = without_missing(song, wishes)
     if wishes.end:

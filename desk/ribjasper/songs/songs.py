@@ -10,18 +10,18 @@ from pathlib import Path
 LONGEST_WORD = 3.0
 SLOWEST_LETTERS, SHORTEST_SWEEP = 12.0, 1.0
 LONGEST_LINE = 10.0
-# Letters of a message about a line, and how many messages a song may have.
+# The number of letters of a text in a message about a line, and the number of messages of a song.
 LONGEST_MESSAGE, MOST_MESSAGES = 300, 100
 # The voices: up to four singers, and all of them together.
 FIRST, SECOND, THIRD, FOURTH, BOTH = range(5)
 SINGERS = 4
-# What files call a voice that is not one singer's.
+# The names in files for voices of several singers.
 TOGETHER = {"both", "all", "duet", "together", "d", "tutti", "chorus", "choir", "alle", "beide"}
 
 
 @dataclass
 class Syllable:
-    """What is sung at one time, in seconds of the audio; blanks around it belong to the text."""
+    """A text that is sung at one time, in seconds of the audio; spaces around it belong to the text."""
 
     text: str
     start: float
@@ -48,12 +48,12 @@ class Line:
 
     @property
     def end(self) -> float:
-        """When all of it is lit."""
+        """The time at which all of it is lit."""
         return self.syllables[-1].end
 
     @property
     def stays(self) -> float:
-        """Until when it is taken as sung."""
+        """The time until which the line counts as sung."""
         return max(self.end, self.until or 0.0)
 
     @property
@@ -99,26 +99,26 @@ class Song:
 
     @property
     def voices(self) -> int:
-        """How many voices have colours of their own; both of a duet have the colours of two."""
+        """The number of voices with their own colours; both voices of a duet have the colours of two."""
         used = {syllable.voice for line in self.lines for syllable in line.syllables}
         most = max(used - {BOTH}, default=FIRST)
         return 1 + max(most, SECOND if BOTH in used else FIRST)
 
     @property
     def has_both(self) -> bool:
-        """Whether all sing some of it together."""
+        """Whether all singers sing some of it together."""
         return any(syllable.voice == BOTH for line in self.lines for syllable in line.syllables)
 
     def note(self, number: int, what: str) -> None:
-        """A note on a line that is not as one would expect, and is used all the same."""
+        """Adds a note about a line that is unusual and is used nevertheless."""
         self.notes.append(f"{self.path}: line {number} {shortened(what)}")
 
     def fault(self, number: int, what: str) -> None:
-        """Something that keeps the song from being used."""
+        """Adds an error that prevents the use of the song."""
         self.faults.append(f"line {number}: {shortened(what)}")
 
     def voice_of(self, name: str, number: int) -> int:
-        """The voice of a singer, in the order in which they come; a name with two singers in it is both."""
+        """The voice of a singer, numbered in order of appearance; a name with two singers means both."""
         name = name.strip()
         if not name:
             return FIRST
@@ -135,7 +135,7 @@ class Song:
         return min(self.singers.index(name), SINGERS - 1)
 
     def shift(self, seconds: float) -> None:
-        """Moves all times; what then would begin before the audio does is left to `clip`."""
+        """Moves all times; words before the beginning of the audio are left to `clip`."""
         if not seconds:
             return
         for line in self.lines:
@@ -148,25 +148,25 @@ class Song:
 
 
 def shortened(text: str) -> str:
-    """A text for a message; a long one without its middle."""
+    """A text for a message; a long text without its middle."""
     return (
         text if len(text) <= LONGEST_MESSAGE else f"{text[: LONGEST_MESSAGE // 2]} .. {text[-LONGEST_MESSAGE // 2 :]}"
     )
 
 
 def first_of_many(messages: list[str], most: int, rest: str) -> list[str]:
-    """The first messages, and how many more there are."""
+    """The first messages, and the number of others."""
     more = len(messages) - most
     return messages if more <= 0 else [*messages[:most], rest.format(more)]
 
 
 def letters_in(text: str) -> int:
-    """How many letters a text is long for a singer: a sign of a script without an alphabet counts as three."""
+    """The length of a text for a singer, in letters: a character of a script without an alphabet counts as three."""
     return sum(3 if unicodedata.east_asian_width(letter) in "WF" else not letter.isspace() for letter in text)
 
 
 def open_line(line: Line, following: float | None) -> Line:
-    """A line with one time and no known end: it is swept over as fast as its letters may be sung."""
+    """A line with one time and no known end: it is lit as fast as its letters may be sung."""
     start = line.start
     longest = max(SHORTEST_SWEEP, letters_in(line.text) / SLOWEST_LETTERS)
     end = start + longest if following is None else min(start + longest, following)
@@ -180,5 +180,5 @@ def seconds(minutes: str, whole: str, part: str | None) -> float:
 
 
 def song_time(time: float) -> str:
-    """A time as lyrics spell it."""
+    """A time in the spelling of lyrics."""
     return f"{int(time) // 60:02}:{time % 60:05.2f}"

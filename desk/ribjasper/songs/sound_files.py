@@ -14,14 +14,14 @@ from ..common.beside import new_mode
 from ..common.output import Outputs
 from .songs import Song
 
-# What an MP3 of a song has: 192 kilobits a second and its tags in the form that most players read.
+# The options for an MP3 of a song: 192 kilobits per second, with tags in the form that most players read.
 MP3_FORM = ["-vn", "-c:a", "libmp3lame", "-b:a", "192k", "-id3v2_version", "3", "-f", "mp3"]
 COPIED_AT_ONCE = 1 << 20
 
 
 def sound_of(arguments: argparse.Namespace) -> Path:
     with reading(arguments.song):
-        # Lyrics that are missing are reported before a sound that is.
+        # Missing lyrics are reported before a missing sound.
         os.stat(arguments.song)
     sound = arguments.audio or audio.sound_beside(arguments.song)
     if not sound:
@@ -31,7 +31,7 @@ def sound_of(arguments: argparse.Namespace) -> Path:
 
 
 def write_sound(outputs: Outputs, name: str, sound: Path, song: Song, ending: str) -> None:
-    """Writes the sound under a name with this ending: as it is, or converted by ffmpeg."""
+    """Writes the sound under a name with this ending: unchanged, or converted by ffmpeg."""
     if sound.suffix.lower() != ending:
         convert_sound(sound, song, outputs.path(name), ending)
         return
@@ -80,7 +80,7 @@ def make_mp3(sound: Path, song: Song, out: str) -> None:
 
 
 def write_zip(outputs: Outputs, name: str, packs: bytes, sound: Path, song: Song, ending: str) -> None:
-    """Both files in one, under the name of the pair."""
+    """Writes both files into one, under the name of the pair."""
     stem = Path(name).stem
     with zipfile.ZipFile(outputs.path(name), "w", zipfile.ZIP_DEFLATED) as together:
         graphics = zipfile.ZipInfo(f"{stem}.cdg", time.localtime(time.time())[:6])

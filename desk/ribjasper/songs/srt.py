@@ -5,12 +5,12 @@ from .songs import Line, Song, Syllable
 
 TIME = r"(\d{1,6}):(\d{1,6}):(\d{1,6})[,.](\d{1,6})"
 TIMES = re.compile(rf"[^\S\n]*{TIME}\s*-->\s*{TIME}")
-# Marks of how a text looks.
+# Marks for the appearance of a text.
 MARKS = re.compile(r"<[^<>]*>|\{[^{}]*\}")
 
 
 def read_srt(text: str, song: Song) -> None:
-    """The lines of a stretch are sung one after the other, each in proportion to its letters."""
+    """Reads SubRip. The lines of a stretch are sung one after another, each in proportion to its letters."""
     lines = text.splitlines()
     for number, line in enumerate(lines, 1):
         found = TIMES.match(line)
@@ -29,7 +29,7 @@ def srt_time(parts: tuple[str, ...]) -> float:
 
 
 def below(lines: list[str], number: int) -> list[str]:
-    """The lines of text that follow, to the next empty one."""
+    """The lines of text up to the next empty line."""
     end = next((place for place in range(number, len(lines)) if not lines[place].strip()), len(lines))
     return lines[number:end]
 

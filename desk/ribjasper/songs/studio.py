@@ -39,7 +39,7 @@ IN_ALBUM = {
     "between": "between",
     "intro": "intro",
 }
-# How long a call waits for pictures.
+# The number of seconds for which a call waits for pictures.
 PATIENCE = 120.0
 
 
@@ -47,7 +47,7 @@ if sys.platform == "win32":
     import msvcrt
 
     def is_locked_by_us(number: int) -> bool:
-        """Locks an open file for this process; whether no other process has it."""
+        """Locks an open file for this process; returns whether no other process has locked it."""
         os.lseek(number, 1 << 30, os.SEEK_SET)
         try:
             msvcrt.locking(number, msvcrt.LK_NBLCK, 1)
@@ -59,7 +59,7 @@ else:
     import fcntl
 
     def is_locked_by_us(number: int) -> bool:
-        """Locks an open file for this process; whether no other process has it."""
+        """Locks an open file for this process; returns whether no other process has locked it."""
         try:
             fcntl.flock(number, fcntl.LOCK_EX | fcntl.LOCK_NB)
         except OSError:
@@ -75,7 +75,7 @@ class Lock:
         self.take()
 
     def take(self) -> None:
-        """Locks the file that has the name now."""
+        """Locks the file that currently has the name."""
         if self.number >= 0 and os.path.samestat(os.fstat(self.number), os.stat(self.path)):
             return
         number = os.open(self.path, os.O_RDONLY | getattr(os, "O_CLOEXEC", 0) | getattr(os, "O_BINARY", 0))
@@ -99,7 +99,7 @@ class Files(NamedTuple):
 
 
 def files_of(song: Path, sound: Path | None) -> Files:
-    """The files of a song that is named by its lyrics or by a folder that holds it."""
+    """The files of a song that is named by its lyrics or by a folder that contains it."""
     lyrics = lyrics_in(song) if song.is_dir() else song
     if not lyrics.is_file():
         raise Refusal(lyrics, "is not a file" if lyrics.exists() else "no such file or directory")
@@ -110,7 +110,7 @@ def files_of(song: Path, sound: Path | None) -> Files:
 
 
 def lyrics_in(folder: Path) -> Path:
-    """The lyrics in a folder: those that have a journal, or the only ones."""
+    """The lyrics in a folder: those with a journal, or the only ones."""
     found = sorted(path for path in folder.iterdir() if path.suffix.lower() in LYRICS and path.is_file())
     begun = [path for path in found if journal_of(path).exists()]
     chosen = begun if len(begun) == 1 else found
@@ -127,14 +127,14 @@ def only_sound(folder: Path | None) -> Path | None:
 
 
 class Opened(NamedTuple):
-    """A song as its files hold it."""
+    """A song as read from its files."""
 
     document: Document
     score: Score
 
 
 def opened_from(path: Path, lyrics: bytes, more: bytes | None, encoding: str | None) -> Opened:
-    """The song in some files; a text without times is a song that is still to be timed."""
+    """The song in some files; a text without times is a song that must still be timed."""
     song, is_lrc = read_from(path, lyrics, more, encoding)
     document = document_of(song, lyrics, more) if is_lrc else Document(song)
     if song.lines:
@@ -146,7 +146,7 @@ def opened_from(path: Path, lyrics: bytes, more: bytes | None, encoding: str | N
 
 
 class Job:
-    """What is being made of the song: its name, how much is done, and how it ended."""
+    """A job on the song: its name, its progress, and how it ended."""
 
     def __init__(self, what: str) -> None:
         self.what, self.done, self.message, self.error, self.is_over = what, 0.0, "", "", False
@@ -192,7 +192,7 @@ class Studio:
 
     @property
     def target(self) -> Path:
-        """The LRC file that the song is saved as."""
+        """The LRC file as which the song is saved."""
         return self.lyrics if self.is_lrc else self.lyrics.with_suffix(".lrc")
 
     @property
@@ -213,8 +213,8 @@ class Studio:
         self.history = history_of(self.journal_path, self.opened.score, self.journal)
 
     def kept_journal(self, lyrics: bytes, more: bytes | None, force: bool) -> Journal | None:
-        """The journal that belongs to the files as they are. One of another version of them is used no more if it holds
-        nothing that is not saved, or with force."""
+        """The journal that belongs to the current files. A journal of another version of them is dropped if it contains
+        nothing unsaved, or with force."""
         if not self.journal_path.exists():
             return None
         found = read_journal(self.journal_path, read_file(self.journal_path))
@@ -243,8 +243,8 @@ class Studio:
         self.act(self.history.redo)
 
     def act(self, change: Callable[[], Score]) -> None:
-        """Makes a change, keeps it in the journal, and plans its pictures meanwhile. A change that cannot be kept is
-        not made."""
+        """Makes a change, writes it to the journal, and plans its pictures meanwhile. A change that cannot be written
+        is not made."""
         with self.guard:
             before = self.history.kept()
             if change() is before.score:
@@ -258,14 +258,14 @@ class Studio:
                 raise
 
     def show_score(self) -> None:
-        """Asks for the pictures of the score as it is now."""
+        """Requests the pictures of the current score."""
         self.revision += 1
         self.rehearsal.ask(self.revision, self.score)
 
     def write_journal(self) -> None:
         saved = self.journal.saved or 0
         if saved > 0 and self.history.edits[:saved] != self.journal.edits[:saved]:
-            # What was saved is no longer among the edits.
+            # The saved state is no longer among the edits.
             self.journal.saved = -1
         self.journal.edits, self.journal.at = list(self.history.edits), self.history.at
         with Outputs([self.lyrics, self.sound], [(self.journal_path, kinds.JOURNAL)]) as outputs:
@@ -329,7 +329,7 @@ class Studio:
         return False
 
     def export(self, ending: str) -> list[str]:
-        """Writes the song for other programs, in this or a later call's way; what a format cannot express is noted."""
+        """Writes the song for other programs, in the format of this ending; what the format cannot express is noted."""
         with self.guard:
             self.check_timed()
             if ending not in EXPORTS:
@@ -347,7 +347,7 @@ class Studio:
         return rehearsed(revision, score, self.opened.document.song, self.sound, self.known)
 
     def ready(self) -> Rehearsed:
-        """The pictures of the song as it is, if all of it is timed and nothing keeps it from being made."""
+        """The pictures of the current song, if all of it is timed and it can be drawn."""
         with self.guard:
             self.check_timed()
             revision = self.revision
@@ -375,7 +375,7 @@ class Studio:
         job.message = f"{names}: {made.blocks / BLOCKS_A_SECOND:.1f} seconds"
 
     def add_to_album(self, job: Job) -> None:
-        """Adds the song to the list of its folder, or begins one. The lyrics that the list names are saved first."""
+        """Adds the song to the list in its folder, or begins one. The lyrics in the list are saved first."""
         self.save()
         path = self.folder / ALBUM
         with self.guard:
@@ -386,7 +386,7 @@ class Studio:
             if entry.splitlines()[2] in before.splitlines():
                 job.message = f"{ALBUM} has this song already"
                 return
-            # What the list holds stays, so it may be one that was changed by hand.
+            # The entries of the list remain, so it may have been changed by hand.
             with Outputs([self.lyrics, self.sound], [(path, kinds.ALBUM)], True) as outputs:
                 outputs.write(path, (begin + entry).encode())
         job.message = f"{ALBUM} has the song now; `ribjasper-desk album {ALBUM} -o DISC` makes the disc"
@@ -398,7 +398,7 @@ class Studio:
         return "".join(f"{name} = {toml_value(value)}\n" for name, value in rows.items())
 
     def begin_job(self, what: str, work: Callable[[Job], None]) -> None:
-        """Makes something in a thread of its own, one thing at a time."""
+        """Starts a job in a separate thread, one at a time."""
         with self.guard:
             if self.job.what and not self.job.is_over:
                 raise Refusal(self.lyrics, f"{self.job.what} is still being made")
@@ -414,7 +414,7 @@ class Studio:
 
         threading.Thread(target=run, name=what, daemon=True).start()
 
-    # What the page knows
+    # Data for the page
 
     def state(self) -> dict[str, Any]:
         with self.guard:
@@ -441,7 +441,7 @@ class Studio:
             }
 
     def choices(self) -> dict[str, Any]:
-        """What the page lets a user choose from."""
+        """The choices that the page offers to a user."""
         names = sorted(path.name for path in self.folder.iterdir())
         styles = [name for name in names if name.endswith(".toml") and is_style(self.folder / name)]
         return {
@@ -463,12 +463,12 @@ class Studio:
 
 
 def is_writable(path: Path) -> bool:
-    """Whether a file may be replaced; its permissions hold for the administrator too."""
+    """Whether a file may be overwritten; its permissions count for the administrator too."""
     return bool(path.stat().st_mode & WRITABLE) and os.access(path, os.W_OK)
 
 
 def export_name(lyrics: Path, ending: str) -> Path:
-    """The name of an export; one that would be the name of the lyrics has a word more."""
+    """The name of an export; a name that equals that of the lyrics gets an additional word."""
     out = lyrics.with_suffix(ending)
     return out if out.name.lower() != lyrics.name.lower() else lyrics.with_name(f"{lyrics.stem}-export{ending}")
 
@@ -492,7 +492,7 @@ def table_of(line: Any) -> dict[str, Any]:
 
 
 def export_song(lyrics: Path, ending: str, encoding: str | None, out: Path | None, force: bool) -> list[str]:
-    """Writes a song for other programs, with the edits that its journal holds; names and notes."""
+    """Writes a song for other programs, with the edits in its journal; returns names and notes."""
     content = read_file(lyrics)
     more_path = beside(lyrics) if lyrics.suffix.lower() == ".lrc" else None
     more = read_file(more_path) if more_path and more_path.is_file() else None

@@ -1,4 +1,4 @@
-"""Steps on one line of time: what is sung is lit at its time, and what comes next is drawn in the gaps."""
+"""Steps on a timeline: words are lit at their times, and the next rows are drawn in the gaps."""
 from dataclasses import dataclass, field, replace
 from typing import Iterator, Sequence
 
@@ -8,9 +8,9 @@ from ..drawing.raster import TILE_WIDTH
 from .pages import DotOut, Draw, Light, Placed, Step
 from .setting import Letters, SungPart
 
-# By how many blocks a word may be lit before its time at most, so that others are lit at theirs.
+# The greatest number of blocks by which a word may be lit before its time, so that others are lit in time.
 EARLY = 8
-# What is late by no more blocks is not seen.
+# A delay of at most this number of blocks is invisible.
 SEEN = 3
 FOREVER, A_MINUTE = 10**9, 60 * 75
 
@@ -21,7 +21,7 @@ def blocks_for(steps: Sequence[Step]) -> int:
 
 @dataclass(eq=False)
 class SentPicture:
-    """Steps that are sent together: from one block on, and whole at another."""
+    """Steps that are sent together: the block at which they begin, and the one at which they are complete."""
 
     steps: list[Step]
     start: int
@@ -30,7 +30,7 @@ class SentPicture:
 
 @dataclass(eq=False)
 class Due:
-    """What is lit together, and the block at which it is complete."""
+    """Steps that light words together, and the block at which they are complete."""
 
     steps: list[Light | DotOut]
     block: int
@@ -42,7 +42,7 @@ class Due:
 
 @dataclass(eq=False)
 class Task:
-    """A place of a page that is to be filled, not before a block; wholly drawn by another, if it can be."""
+    """A place of a page to be filled: not before a block, and completely before another one, if possible."""
 
     placed: Placed
     steps: list[Draw]
@@ -52,13 +52,13 @@ class Task:
 
 @dataclass
 class Timeline:
-    """Pictures one after the other."""
+    """Pictures one after another."""
 
     now: int
     pictures: list[SentPicture] = field(default_factory=list)
 
     def put(self, steps: Sequence[Step], start: int) -> int:
-        """Sends steps from a block on, or as soon as the line is free; returns when they are complete."""
+        """Sends steps from a block on, or as soon as earlier ones are complete; returns when they are complete."""
         steps = [step for step in steps if step.need]
         if not steps:
             return self.now
@@ -69,7 +69,7 @@ class Timeline:
 
 
 def latest_starts(dues: list[Due]) -> list[int]:
-    """When each has to be sent at the latest, so that it and all after it are complete at their blocks."""
+    """The latest block to send each of these, so that it and all later ones are complete in time."""
     starts, limit = [], FOREVER
     for due in reversed(dues):
         limit = min(due.block, limit) - blocks_for(due.steps)
@@ -78,7 +78,7 @@ def latest_starts(dues: list[Due]) -> list[int]:
 
 
 def grouped(dues: Sequence[Due]) -> list[Due]:
-    """What would be lit much too early is lit together with what follows on its line."""
+    """Words that would be lit much too early are lit together with the next ones on their line."""
     kept: list[tuple[Due, int]] = []
     for due in reversed(dues):
         while kept and due.block - kept[-1][1] > EARLY and kept[-1][0].placed is due.placed:
@@ -89,8 +89,8 @@ def grouped(dues: Sequence[Due]) -> list[Due]:
 
 
 def paired(dues: Sequence[Due]) -> list[Due]:
-    """What is lit soon after each other on a line is lit together where that fits into one block. Two columns of a
-    tile's width then take one block instead of two, and more blocks are left for what is drawn."""
+    """Words that are lit in quick succession on a line are lit together if that fits into one block. Two columns as
+    wide as a tile then need one block instead of two, and more blocks remain for drawing."""
     kept: list[Due] = []
     for due in dues:
         last = kept[-1] if kept else None
@@ -104,8 +104,8 @@ def paired(dues: Sequence[Due]) -> list[Due]:
 
 @dataclass
 class Lateness:
-    """By how many blocks lines are drawn and words are lit after their times, the lines that are not sung out when
-    others have to come in their place, and those that are not wholly lit before the audio ends."""
+    """The numbers of blocks by which rows are drawn too late and words are lit too late, the rows that are not sung
+    completely before others replace them, and those that are not lit completely before the audio ends."""
 
     drawn_late: dict[Placed, int] = field(default_factory=dict)
     lit_late: dict[Placed, int] = field(default_factory=dict)
@@ -123,22 +123,22 @@ class Lateness:
         return {*self.drawn_late, *self.lit_late, *self.lost, *self.cut}
 
     def total(self) -> int:
-        """How bad it is: blocks, and a minute for each line that is lost."""
+        """The total delay: in blocks, with a minute for each lost line."""
         return sum(self.drawn_late.values()) + sum(self.lit_late.values()) + A_MINUTE * len([*self.lost, *self.cut])
 
 
 class Arranger:
-    """Puts tasks and dues on a line of time. A place is cleared wholly before other letters are drawn in it."""
+    """Puts tasks and dues on a timeline. A place is completely cleared before other letters are drawn in it."""
 
     def __init__(self, line: Timeline, tasks: list[Task], dues: list[Due]):
         self.line, self.dues = line, dues
         self.tasks = {task.placed: task for task in tasks}
-        # What is still to be lit, and so is not to be drawn over.
+        # These rows are still to be lit, so they must not be drawn over.
         self.is_open = {due.placed for due in dues}
         self.lateness = Lateness()
 
     def run(self) -> Lateness:
-        """Words are lit in their order, each after its letters are drawn."""
+        """Lights words in order, each after its letters are drawn."""
         last = {due.placed: due for due in self.dues}
         for due, start in zip(self.dues, latest_starts(self.dues)):
             if due.placed in self.is_open:
@@ -150,7 +150,7 @@ class Arranger:
         return self.lateness
 
     def fill(self, until: int) -> None:
-        """Draws what may be drawn before a block, what is due first before others, column by column."""
+        """Draws the rows that may be drawn before a block, the most urgent first, column by column."""
         while waiting := self.waiting(until):
             begin = max(self.line.now, min(task.release for task in waiting))
             task = min((task for task in waiting if task.release <= begin), key=lambda task: task.block)
@@ -161,7 +161,7 @@ class Arranger:
             self.draw(task, count, begin)
 
     def waiting(self, until: int) -> list[Task]:
-        """What may be drawn before a block."""
+        """The tasks that may be drawn before a block."""
         return [task for task in self.tasks.values() if task.steps and task.release < until and self.may_come(task)]
 
     def may_come(self, task: Task) -> bool:
@@ -175,8 +175,8 @@ class Arranger:
         return not self.tasks[before].steps if task.placed.letters else before not in self.is_open
 
     def take_over(self, task: Task) -> None:
-        """Where a place is cleared, what was still to be drawn there before is not drawn any more; and what was
-        still to be cleared before that is cleared with it."""
+        """When a place is cleared, rows that were still to be drawn there are dropped, and an earlier clearing that was
+        still to be done is done with it."""
         letters = task.placed.before
         if task.placed.letters or not letters:
             return
@@ -212,7 +212,7 @@ class Arranger:
             self.note_drawn(task, now)
 
     def beside(self, due: Due, start: int) -> list[tuple[Task, Draw]]:
-        """Columns that are drawn with the packs that a light leaves free in its blocks."""
+        """Draws columns with the packs that remain free in the blocks of a light."""
         room = PACKS_A_BLOCK * blocks_for(due.steps) - sum(step.need for step in due.steps)
         found: list[tuple[Task, Draw]] = []
         while room and (task := self.next_within(room, start)):
@@ -221,7 +221,7 @@ class Arranger:
         return found
 
     def next_within(self, room: int, start: int) -> Task | None:
-        """What may be drawn at a block and is due first, if its next column needs no more packs than there are."""
+        """The most urgent task that may be drawn at a block, if its next column needs no more packs than are free."""
         for task in sorted(self.waiting(start + 1), key=lambda task: task.block):
             self.take_over(task)
             if task.steps[0].need <= room:
@@ -229,7 +229,7 @@ class Arranger:
         return None
 
     def clear_for(self, placed: Placed) -> None:
-        """Clears a place at once, whether its letters are sung or not."""
+        """Clears a place at once, whether or not its letters are sung."""
         clearing = self.tasks.get(placed.before) if placed.before else None
         if not clearing or not clearing.steps:
             return
@@ -242,7 +242,7 @@ class Arranger:
 
 
 def note(late: dict[Placed, int], placed: Placed, blocks: int) -> None:
-    """Keeps how late a line is at most, where that can be seen."""
+    """Records the greatest visible delay of a row."""
     if blocks > SEEN:
         late[placed] = max(blocks, late.get(placed, 0))
 
@@ -258,8 +258,8 @@ def fitting(steps: list[Draw], blocks: int) -> int:
 
 
 def dues_of(placed: Placed, sweep: bool) -> list[Due]:
-    """When the parts of a line are lit: each syllable at its time, or column by column while it is sung; and when the
-    dots go out that count it in."""
+    """The times at which the parts of a line are lit: each syllable at its time, or column by column while it is sung;
+    and the times at which its countdown dots disappear."""
     dues = [
         Due([DotOut(placed, left, left + TILE_WIDTH)], nearest_block(placed.start) - BLOCKS_A_SECOND * after)
         for after, left in zip(range(len(placed.dots) - 1, -1, -1), placed.dots)
@@ -277,7 +277,7 @@ def dues_of(placed: Placed, sweep: bool) -> list[Due]:
 
 
 def swept(letters: Letters) -> list[SungPart]:
-    """The stretches of one direction in a row whose words have no times: each is swept over as long as it is wide."""
+    """The parts with one direction in a row whose words have no times: each is lit in proportion to its width."""
     stretches: list[SungPart] = []
     for part in letters.parts:
         last = stretches[-1] if stretches else None

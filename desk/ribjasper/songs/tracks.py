@@ -1,5 +1,5 @@
-"""The packs of a track: those of its script, authored for itself, so that they begin with presets and all colours and
-bring its pictures from every screen."""
+"""The packs of a track: those of its script, authored separately, so that they begin with presets and all colours and
+draw its pictures on every screen."""
 from pathlib import Path
 
 from ..common.cue_sheets import ONE_TRACK
@@ -13,7 +13,7 @@ from .song_script import BEGIN, THROUGH_PAUSE
 FIRST_OF_AUDIO = PACKS_A_BLOCK * PAUSE - (SLOTS - 1)
 # Presets of the memory and the border, and the two packs of colours, with which a first picture begins.
 PRESETS = 4
-# Their place in a track: the first pack of all whose slots are the track's is number 7, the first of a block 8.
+# Their place in a track: the first pack whose slots are all in the track is number 7, the first one of a block is 8.
 PRESETS_AT = 8
 # The first pack that a script may use behind the picture that is held through the pause.
 FREE_FROM = PACKS_A_BLOCK * BEGIN - (SLOTS - 1)
@@ -51,7 +51,7 @@ def authored(path: Path, script: bytes, blocks: int) -> bytes | None:
 
 
 def as_pair(packs: bytes) -> bytes:
-    """The packs of a track as a file of its own, which begins with its presets and colours; they come once more where a
-    disc that is made of it still has them."""
+    """The packs of a track as a separate file, which begins with its presets and colours; they are repeated at their
+    old place, as on a disc that is made from the file."""
     presets = packs[PACK * PRESETS_AT : PACK * (PRESETS_AT + PRESETS)]
     return presets + packs[len(presets) :]

@@ -12,11 +12,11 @@ BREAK = re.compile(r"-\s*(-?\d{1,9})?(?:\s+(-?\d{1,9}))?\s*$")
 TEMPO = re.compile(r"B\s+(-?\d{1,9})\s+(\S+)\s*$")
 PLAYER = re.compile(r"#?P\s*([123])\s*$")
 VOICES = {"1": FIRST, "2": SECOND, "3": BOTH}
-# A beat of the file is a quarter of one of the music.
+# A beat in the file is a quarter of a beat of the music.
 BEATS = 4
-# What holds the syllable before it.
+# The mark for holding the previous syllable.
 HELD = "~"
-# The most beats a minute, and milliseconds before the first beat, that a file may name.
+# The greatest number of beats per minute, and of milliseconds before the first beat, in a file.
 FASTEST, LONGEST_GAP = 100_000, 10_000_000
 
 
@@ -114,7 +114,7 @@ def set_clock(song: Song, clock: Beats, name: str, value: str, number: int) -> N
 
 
 def add_syllable(line: Line, text: str, start: float, end: float, voice: int) -> None:
-    """A note; one whose text is only held, or none, makes the one before it longer."""
+    """Adds a note; a note whose text is only a mark for holding, or empty, extends the previous one."""
     if text.strip() in (HELD, "") and line.syllables:
         line.syllables[-1].end = end
         line.syllables[-1].text += " " * (text != text.rstrip())
@@ -123,7 +123,7 @@ def add_syllable(line: Line, text: str, start: float, end: float, voice: int) ->
 
 
 def merged_voices(lines: list[Line]) -> list[Line]:
-    """In the order of the times; a line that both sing at once is one of both."""
+    """The lines sorted by their times; a line that both sing at the same time is a line of both."""
     lines = sorted(lines, key=lambda one: one.start)
     kept: list[Line] = []
     firsts: dict[tuple[float, str], Line] = {}

@@ -1,4 +1,4 @@
-"""Lyrics as WebVTT files: cues with lines of text, which may hold times of words and names of voices."""
+"""Lyrics as WebVTT files: cues with lines of text, which may contain times of words and names of voices."""
 import re
 
 from .songs import FIRST, Line, Song, Syllable
@@ -17,12 +17,12 @@ ESCAPES = (
     ("&rlm;", "\u200f"),
     ("&amp;", "&"),
 )
-# Blocks that hold no lyrics.
+# Blocks without lyrics.
 NO_CUES = re.compile(r"(NOTE|STYLE|REGION)(\s|$)")
 
 
 def read_vtt(text: str, song: Song) -> None:
-    """Cues with times of words have them; the lines of others are sung one after the other."""
+    """Reads WebVTT. Times of words are used; the lines of cues without them are sung one after another."""
     lines = text.splitlines()
     is_block = False
     for number, line in enumerate(lines, 1):
@@ -72,7 +72,7 @@ def add_cue(song: Song, number: int, texts: list[str], start: float, end: float)
             line.syllables.append(Syllable(plain_text(text[at : stamp.start()]), sung, sung, one))
             sung, at = vtt_time(stamp.groups()), stamp.end()
         line.syllables.append(Syllable(plain_text(text[at:]), sung, end, one))
-        # A line that begins with a time has nothing in front of it.
+        # A line that begins with a time has no text before it.
         if len(line.syllables) > 1 and not line.syllables[0].text.strip():
             del line.syllables[0]
         cue.append(line)

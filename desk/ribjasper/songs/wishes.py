@@ -104,7 +104,7 @@ def look_for(arguments: argparse.Namespace) -> Look:
 
 
 def style_of(arguments: argparse.Namespace, look: Look) -> Style:
-    """The style that is asked for, or else the one that the studio saved; its file is in the folder of the song."""
+    """The requested style, or otherwise the one that the studio saved; its file is in the folder of the song."""
     if arguments.style or look.style in shipped():
         return read_style(arguments.style or look.style)
     return read_style(os.fspath(arguments.song.parent / look.style))
@@ -133,7 +133,7 @@ def wishes_of(arguments: argparse.Namespace, end: int | None) -> Wishes:
 
 
 def reads_of(arguments: argparse.Namespace) -> list[Path | None]:
-    """The files that a song is made from."""
+    """The files from which a song is made."""
     look = look_for(arguments)
     own = [arguments.song.parent / name for name in (look.title, *look.between) if name and not name.startswith("#")]
     between = [Path(word) for word in arguments.between if not word.startswith("#")]

@@ -15,7 +15,7 @@ from ...dumps.forms import Coding, FORMS, Form
 from ...dumps.loading import FORM_NAMES, Loaded, add_options, asked, form_name, read_dump
 from ...dumps.pieces import pieces_of
 
-# The form that an output has, by its ending, where none is named.
+# The form of an output, by the ending of its name, if none is named.
 ENDINGS = {".raw": "raw", ".subcode": "raw", ".sub": "planar", ".bin": "sector", ".img": "sector", ".cdg": "cdg"}
 
 

@@ -1,4 +1,4 @@
-"""Where a dump is damaged: runs of blocks, jumps of its time, a map, and what is to be read again."""
+"""The damage of a dump: runs of blocks, jumps of its time, a map, and the blocks to read again."""
 import argparse
 
 from ...common import kinds

@@ -1,4 +1,4 @@
-"""What a dump is: its form, its lead-in, and what it carries."""
+"""The form of a dump, its lead-in, and its content."""
 import argparse
 
 from ...common import library

@@ -134,7 +134,7 @@ def track_at(laid: Laid, number: int, clock: Clock, time: int) -> int | None:
 
 
 def twice(laid: Laid) -> Iterator[str]:
-    """Messages on parts of files whose times other parts of the same file have too."""
+    """Messages about parts of a file whose times also occur in other parts of the same file."""
     for number, reading in enumerate(laid.readings, 1):
         for part in reading.parts if reading.is_beside else ():
             blocks = f"blocks {part.first} to {part.end - 1} of {shown(reading.path)}"
@@ -151,7 +151,7 @@ def write_stream(content: memoryview, path: str, write: Callable[[bytes], object
 
 
 class Units(NamedTuple):
-    """The units in maps of an output, blocks or packs: name, bytes, and how many come before the program."""
+    """The units of an output in maps, blocks or packs: their name, their size, and how many precede the program."""
 
     name: str
     size: int

@@ -1,4 +1,4 @@
-"""Fills in bad Q frames between good ones where only one frame is possible, keeps frames that were changed by design, and
+"""Restores bad Q frames between good ones if only one frame is possible, keeps frames that were changed by design, and
 checks P and the indexes against Q."""
 import argparse
 from typing import Any
@@ -23,7 +23,7 @@ def as_unit(block: bytes, form: Form) -> bytes:
 
 
 def write_copy(loaded: Loaded, frames: dict[int, bytes], out: Any) -> None:
-    """The file with these frames in place of those that are bad; all else as it is."""
+    """The file with these frames in place of the bad ones, and otherwise unchanged."""
     form, start = loaded.form, loaded.dump.skip
     at_once = READ_AT_ONCE // form.unit
     with reading(loaded.path), open(loaded.path, "rb") as file:

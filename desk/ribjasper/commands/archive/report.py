@@ -23,7 +23,7 @@ from ...dumps.workers import How, FileTask, by_cluster, here, processors, lost_r
 # What a journal holds changes with this number; rows of another are read again.
 LAYOUT = 3
 JOURNALS = "journal*.jsonl"
-# Pictures of a report have names that nobody else gives: they need no record.
+# Only reports give their pictures these names: they need no record.
 PICTURE = kinds.PNG._replace(is_recorded=False)
 OWN_NAME = re.compile(r"[0-9a-f]{20}-(first\.png|map\.png|places\.tsv)")
 # No cell of the table is longer: programs for tables cut at 32,767 characters.
@@ -108,8 +108,8 @@ class Below(NamedTuple):
 
 
 def files_below(folder: str, out: str, follow_links: bool) -> Below:
-    """All files below a folder in the order of their names, but for those of the report. Links to folders are followed
-    where that is asked for, each folder once."""
+    """All files below a folder, sorted by name, without the files of the report. If requested, links to folders are
+    followed, each folder once."""
     if not os.path.isdir(folder):
         raise Refusal(folder, "is not a folder" if os.path.exists(folder) else "no such folder")
     below, seen = Below([], []), {os.path.realpath(out)}
@@ -163,7 +163,7 @@ def file_names(name: str) -> Names:
 
 
 def is_whole(out: Path, row: ReportRow, wants_pictures: bool) -> bool:
-    """Whether the files of a row are there: the map, where one is wanted, and the list of places, where it has some."""
+    """Whether the files of a row exist: the map, if one is wanted, and the list of places, if the row has one."""
     names = file_names(row["file"])
     has_map = not wants_pictures or row["form"] is None or (out / names.map).exists()
     return has_map and (not row["damage"] or (out / names.places).exists())
@@ -224,8 +224,8 @@ def look_at_all(
 
 
 def cell(value: object) -> str:
-    """A value in the table: a dash for none, the parts of a list with semicolons between, and no more than a cell
-    takes."""
+    """A value in the table: a dash for None, the parts of a list separated by semicolons, cut to the length of a
+    cell."""
     if value is None or value == []:
         return "-"
     text = "; ".join(map(str, value)) if isinstance(value, list) else str(value)

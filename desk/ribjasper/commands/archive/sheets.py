@@ -24,7 +24,7 @@ FIRST_TRACK, LAST_TRACK = 0xA0, 0xA1
 
 
 class SheetWriter:
-    """A disc with the name of its audio file, whether texts are written in Latin-1, and what times count from."""
+    """A disc with the name of its audio file, the encoding of its texts, and the origin of its times."""
 
     def __init__(
         self, source: Source, found: QDisc, name: bytes, is_latin_1: bool, base: TimeBase = TimeBase.FILE
@@ -78,8 +78,7 @@ class SheetWriter:
         return sheet.content()
 
     def toc(self, session: int = 1) -> bytes:
-        """A sheet for cdrdao, which is of one session, and whose audio file begins with the first sector of the
-        dump."""
+        """A sheet for cdrdao, which has one session, and whose audio file begins with the first sector of the dump."""
         lines = [b"CD_DA" if not any(track.control & DATA for track in self.disc.tracks) else b"CD_ROM"]
         if CATALOGUE.fullmatch(self.disc.catalogue):
             lines.append(b'CATALOG "%b"' % self.disc.catalogue)
@@ -125,7 +124,7 @@ class SheetWriter:
                 yield b'%b%b "%b"' % (margin, command, spelling)
 
     def ccd(self) -> bytes:
-        """A sheet of CloneCD, whose image begins with the first sector."""
+        """A sheet of CloneCD; its image begins with the first sector."""
         sessions = [session.number for session in self.disc.sessions]
         entries = [entry for session in self.disc.sessions for entry in self.entries(session)]
         lines = ["[CloneCD]", "Version=3", "[Disc]", f"TocEntries={len(entries)}", f"Sessions={len(sessions)}"]
@@ -242,7 +241,7 @@ def add_parser(commands: Commands) -> None:
 
 
 def toc_session(path: str, found: QDisc, asked_for: int | None) -> int:
-    """The session that a sheet for cdrdao describes; it takes one."""
+    """The session in a sheet for cdrdao, which can have only one."""
     numbers = [session.number for session in found.sessions]
     if asked_for is None and len(numbers) > 1:
         tell(f"{shown(path)}: the sheet describes session {numbers[0]} of {len(numbers)}; --session N writes another")

@@ -1,4 +1,4 @@
-"""The text packs of a lead-in, as other tools take them, and back."""
+"""The text packs of a lead-in, in the forms of other tools, and back."""
 import argparse
 import ctypes
 
@@ -32,7 +32,7 @@ def without_header(path: str, content: bytes) -> bytes:
 
 
 def lead_in_of_packs(packs: bytes) -> bytes:
-    """Blocks whose symbols carry the packs over and over, with no P and no Q."""
+    """Blocks whose symbols carry the packs again and again, without P and Q."""
     turn, room = library.call("ribjasper_text_pack_symbols"), ctypes.create_string_buffer(BLOCK // PACKS_A_BLOCK)
     slots = []
     for start in range(0, len(packs), TEXT_PACK):

@@ -21,7 +21,7 @@ LEAST_SHOWN = 0.2
 MOST_STILLS = 1_000
 # A sound that is shorter than the pictures by no more seconds is as long as they are.
 SHORT_SOUND = 1.0
-# A still in pixels, the line below it, and what is between them.
+# The size of a still in pixels, the line below it, and the gap between them.
 STILL_WIDTH, STILL_HEIGHT, LABEL, BETWEEN = WIDTH // 2, HEIGHT // 2, 14, 8
 
 

@@ -1,4 +1,4 @@
-"""`image`: a disc image with its subcode, for a burner: the sectors, and what is on them for cdrdao and others."""
+"""`image`: a disc image with its subcode, for a burner: the sectors, and their tracks for cdrdao and others."""
 import argparse
 import os
 from pathlib import Path
@@ -140,7 +140,7 @@ class LatePicture(Exception):
 
 
 def image_sectors(disc: SheetDisc, program: bytes, path: Path) -> Iterator[bytes]:
-    """The sectors of the image: audio, or silence where the sheet has a gap, and the block."""
+    """The sectors of the image: the audio, or silence in gaps of the sheet, and the block."""
     silent = disc.silence()
     samples = audio.sectors(path)
     silence = bytes(audio.SECTOR_AUDIO)

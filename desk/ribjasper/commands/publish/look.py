@@ -1,5 +1,5 @@
-"""`look`: one page that plays a song before its film is made: sound, picture, a line of time, and keys that move what
-is sung."""
+"""`look`: a page that plays a song before its film is made: sound, picture, a timeline, and keys that move the times of
+the words."""
 import argparse
 import base64
 import html
@@ -131,7 +131,7 @@ def song_data(sung: Sung) -> dict[str, Any]:
 
 
 def sound_word(sung: Sung) -> str:
-    """The sound as a part of the page: MP3 where ffmpeg is installed, else as a disc has it."""
+    """The sound for the page: MP3 if ffmpeg is installed, otherwise as on a disc."""
     if shutil.which("ffmpeg"):
         made = audio.new_file(".mp3")
         make_mp3(sung.sound, sung.song, os.fspath(made))
@@ -145,8 +145,8 @@ def packed(content: bytes) -> str:
 
 
 def picture_parts(packs: bytes) -> dict[str, str]:
-    """What draws the picture: its changes; and before them the library and the packs, where it is built, since not
-    every browser knows modules with addresses of 64 bits."""
+    """The data for the picture: its changes; and, if they are built, the library and the packs, which are preferred,
+    because not every browser supports modules with 64-bit addresses."""
     parts = {"module": "", "wasm": "", "packs": "", "changes": packed(b"".join(changes_of(packs)))}
     if found := web():
         parts |= {

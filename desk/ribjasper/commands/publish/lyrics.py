@@ -1,4 +1,4 @@
-"""`lyrics`: a picture script of a song: pages whose words take another colour when they are sung."""
+"""`lyrics`: a picture script for a song: pages whose words change their colour when they are sung."""
 import argparse
 from dataclasses import replace
 from pathlib import Path

@@ -84,7 +84,7 @@ class Page(NamedTuple):
         return reads[asked.path]() if asked.path in reads else None
 
     def packs(self, word: str) -> Answer:
-        """A table and the packs behind it; the table's length, four bytes, comes first. Nothing if that takes long."""
+        """A table and its packs, with the length of the table in front, four bytes. Nothing if this takes long."""
         made = self.studio.rehearsal.wait(int(word) if word.isascii() and word.isdigit() else 0, PATIENCE)
         if made is None:
             return as_json({"error": "not yet"}, 503)

@@ -4,7 +4,7 @@ use Rattle.std.specs.List.{list_all}
 use Rattle.std.specs.Cmp.Lexicographic.{pointwise}
 use Rattle.block_survey.proofs.surveying.is_empty.Goals as goal
 
--- bytes equal as many zeros where each is zero
+-- bytes equal the same number of zeros if each is zero
 zeros_equal : (bytes : List ℕ)
     → pointwise nat_eq bytes (replicate (length bytes) 0) ≡ list_all (λ byte. byte == 0) bytes
 zeros_equal [] = refl

@@ -2,7 +2,7 @@ use Rattle.std.proofs.Common.{◌≡◌, ℕ, zero, suc, ◌<◌, List, [], ◌�
 use Rattle.cdg_press.proofs.Messages.{same_message}
 use Rattle.cdg_press.proofs.file.sealed.Goals as goal
 
--- two symbols in turn
+-- the first two symbols
 two_of : (word : List ℕ) (first second : ℕ) → first ≡ get_or word 0 0 → second ≡ get_or word 1 0 → (k : ℕ)
     → k < 2
     → get_or (first ∷ second ∷ []) k 0 ≡ get_or word k 0

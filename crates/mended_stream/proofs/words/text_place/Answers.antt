@@ -6,7 +6,7 @@ use Rattle.rw_interleave.proofs.Places.{swapped-lt}
 use Rattle.mended_stream.specs.declared.words.TheConstants.{TEXT_PLACES}
 use Rattle.mended_stream.proofs.words.text_place.Goals as goal
 
--- the entry of the table for byte k
+-- whether the entry of the table for byte k is right
 is_entry : ℕ → Bool
 is_entry k = get_or TEXT_PLACES k 0 == 24 * (7 + k / 24 - k % 24 % 8) + swapped (k % 24)
 

@@ -10,7 +10,7 @@ use Rattle.stream_trial.specs.Trial.{all_changes}
 use Rattle.stream_trial.proofs.Plays.{below_more}
 use Rattle.stream_trial.proofs.needs.count_changes.Goals as goal
 
--- the change of one picture more
+-- the change of one more picture
 one_need : (script : List Drawing) (planned : List PlannedChange) (k sum need : ℕ) → IsSurvey script planned
     → k < pictures script → sum ≡ sum_by (λ k. length (planned_change script k)) (below k)
     → need ≡ (slice_index_or planned k nothing_planned).need

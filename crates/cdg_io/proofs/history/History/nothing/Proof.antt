@@ -1,4 +1,4 @@
--- `nothing` makes a value that takes no memory, at the empty list.
+-- `nothing` makes a value without memory, at the empty list.
 use mathlib.Core.Path.{refl}
 use mathlib.Core.List.{[], ◌∷◌}
 use seplogic.Ra.Ura.{Ura}

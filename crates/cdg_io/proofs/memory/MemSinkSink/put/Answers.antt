@@ -40,7 +40,7 @@ returns-then-room-eq0-clause-same c = (
   ap (λ (v : SinkInMemory). v.room) c.self.view_is,
 )
 
--- ---- It takes some bytes.
+-- ---- It accepts some bytes.
 
 pub returns-clause-counted : goal.returns-clause-counted
 returns-clause-counted c = ap (λ (v : SinkInMemory). v.faults) c.self.view_is

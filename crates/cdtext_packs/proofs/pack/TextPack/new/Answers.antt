@@ -8,7 +8,7 @@ use Rattle.cdtext_packs.specs.Writing.{twelve}
 use Rattle.cdtext_packs.proofs.Seals.{length-twelve}
 use Rattle.cdtext_packs.proofs.pack.TextPack.new.Goals as goal
 
--- a text with zeros past its end
+-- a text, padded with zeros
 padded : (text : List ℕ) → length text ≤ 12
     → text ++ drop (length text) (replicate 14 0) ≡ twelve text 0 ++ 0 ∷ 0 ∷ []
 padded text short =

@@ -7,7 +7,7 @@ use Rattle.cue_sheet.specs.Steps.{after, line_said, stripped, Says}
 use Rattle.cue_sheet.proofs.Stepping.{step_is}
 use Rattle.cue_sheet.proofs.reader.SheetReader.take.Goals as goal
 
--- a draft does not need the file and the latest time
+-- a draft needs neither the file nor the latest time
 stripped_after : (s : CueState) (line : CueLine)
     → stripped (after (stripped s) line) ≡ stripped (after s line)
 stripped_after s SaysNothing = refl

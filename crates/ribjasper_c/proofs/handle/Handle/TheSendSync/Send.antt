@@ -1,4 +1,4 @@
--- A handle may go to another thread: so may its player, and the block goes back to the heap from any thread.
+-- A handle may move to another thread: so may its player, and any thread may free its memory.
 use mathlib.Core.List.{List, [], ◌∷◌}
 use mir.Raw.{raw}
 use base.Shift.{Keyless}

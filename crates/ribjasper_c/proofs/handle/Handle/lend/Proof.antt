@@ -1,4 +1,4 @@
--- `lend` opens what the handle owns, and the handle follows the player that is lent. Assumes `Logic`.
+-- `lend` borrows the player out of what the handle owns. Assumes `Logic`.
 use mathlib.Core.Path.{◌≡◌, refl}
 use Prim.Native.Nat.{ℕ}
 use mathlib.Core.List.{List, [], ◌∷◌}
@@ -71,7 +71,7 @@ module _ {M : Type 1} {𝓤 : Ura M} (𝓛 : Logic 𝓤) (at_mem : Memory → SP
     Post = (walk_of 𝓛 F.ended stayed (F.clauses 𝓛 at_mem run)).post bound
 
     module _ (x : LivePlayer) (held : h.players ≡ x ∷ []) (b o : ℕ) (hv : Val) where
-      -- all of the handle but its player
+      -- the handle without its player
       abbrev Rest : Fml
       Rest =
           fsep (fsep (token E.al h.alloc (bare (τ E)) (block_ptr b o)) (handle E h.alloc hv))

@@ -6,7 +6,7 @@ use Rattle.rw_interleave.specs.Windows.{slots_in}
 use Rattle.rw_interleave.proofs.FourWords.{block_words, word_is, word_of_lanes}
 use Rattle.rw_interleave.proofs.gather.Gather.gather_block.Goals as goal
 
--- the last eight lanes of a vector before the first eight
+-- a vector rotated by eight lanes
 abbrev turned_by_eight : List ℕ → List ℕ
 turned_by_eight v =
     map (λ k. get_or (v ++ v) k 0) (8 ∷ 9 ∷ 10 ∷ 11 ∷ 12 ∷ 13 ∷ 14 ∷ 15 ∷ 0 ∷ 1 ∷ 2 ∷ 3 ∷ 4 ∷ 5 ∷ 6 ∷ 7 ∷ [])

@@ -6,7 +6,7 @@ use Rattle.rw_code.proofs.Errors.{powers_apart}
 use Rattle.rw_merge.proofs.Sums.{error_found}
 use Rattle.rw_merge.proofs.elimination.WordSums.error_at.Goals as goal
 
--- the sums of the powers of different positions are not 0, nor is their product
+-- the sum of the powers of two different positions is not 0, nor is a product of such sums
 scales : (i a b c : ℕ) → i < 24 → (a < 24) × (a ≢ i) → (b < 24) × (b ≢ i) → (c < 24) × (c ≢ i)
     → product (product (bit_xor (alpha_power (23 - i)) (alpha_power (23 - a)))
     (bit_xor (alpha_power (23 - i)) (alpha_power (23 - b))))

@@ -5,7 +5,7 @@ use Rattle.rw_merge.specs.Elimination.{cleared}
 use Rattle.rw_merge.proofs.Sums.{weighted_sum-cleared}
 use Rattle.rw_merge.proofs.elimination.WordSums.without.Goals as goal
 
--- a sum with a part taken out, as the code makes it
+-- a sum after a share is removed, as the code computes it
 taken_out : (j x power next this part sum : ℕ) (es : List ℕ) → power ≡ x → next ≡ weighted_sum (suc j) es
     → this ≡ weighted_sum j es → part ≡ product power this → sum ≡ bit_xor next part
     → sum ≡ weighted_sum j (cleared x es)
