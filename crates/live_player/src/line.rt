@@ -6,56 +6,31 @@ use crate::pairs::{PAIRS, write_pairs};
 use cdg_instructions::COLOURS;
 use std::simd::prelude::*;
 
-/// Writes two bytes for each pixel.
-pub(crate) fn write_twos(
+/// Writes two or three bytes for each pixel. It is inlined, so that the size is a constant.
+#[inline(always)]
+pub(crate) fn write_few(
+    size: usize,
     pixels: &[u8],
     table: &[[u8; 4]; COLOURS],
     pairs: Option<&[[u8; 8]; PAIRS]>,
     line: &mut [u8],
 )
-    requires size { length line.old ≡ 2 * length pixels.now }
+    requires least { 2 ≤ size }
+    requires most { size ≤ 3 }
+    requires size { length line.old ≡ size * length pixels.now }
     requires numbers { AreColourNumbers pixels.now }
     requires entries { HasFourBytes table.now }
-    requires pairs { IfSome pairs (λ pairs. ArePairs 2 table.now pairs.now) }
-    ensures { AreLineBytes 2 pixels.now table.now line.new }
+    requires pairs { IfSome pairs (λ pairs. ArePairs size table.now pairs.now) }
+    ensures { AreLineBytes size pixels.now table.now line.new }
 {
     if pixels.is_empty() {
         return;
     }
     let last = pixels.len() - 1;
-    write_first(
-        2,
-        last.saturating_sub(1) / 2,
-        last,
-        pixels,
-        table,
-        pairs,
-        line,
-    );
+    let paired = last.saturating_sub(1) / 2;
+    write_first(size, paired, last, pixels, table, pairs, line);
     let last_colour = usize::from(pixels[last]);
-    put_two(line, 2 * last, &table[last_colour]);
-}
-
-/// Writes three bytes for each pixel.
-pub(crate) fn write_threes(
-    pixels: &[u8],
-    table: &[[u8; 4]; COLOURS],
-    pairs: Option<&[[u8; 8]; PAIRS]>,
-    line: &mut [u8],
-)
-    requires size { length line.old ≡ 3 * length pixels.now }
-    requires numbers { AreColourNumbers pixels.now }
-    requires entries { HasFourBytes table.now }
-    requires pairs { IfSome pairs (λ pairs. ArePairs 3 table.now pairs.now) }
-    ensures { AreLineBytes 3 pixels.now table.now line.new }
-{
-    if pixels.is_empty() {
-        return;
-    }
-    let last = pixels.len() - 1;
-    write_first(3, last / 2, last, pixels, table, pairs, line);
-    let last_colour = usize::from(pixels[last]);
-    put_three(line, 3 * last, &table[last_colour]);
+    put_front(line, size * last, size, &table[last_colour]);
 }
 
 /// Writes four bytes for each pixel.
@@ -131,26 +106,16 @@ pub(crate) fn write_more(
     }
 }
 
-// Writes the first two of four bytes to a place.
+// Writes the first `size` of four bytes to a place.
 #[inline(always)]
-fn put_two(line: &mut [u8], at: usize, four: &[u8; 4])
-    requires room { at + 2 ≤ length line.old }
+fn put_front(line: &mut [u8], at: usize, size: usize, four: &[u8; 4])
+    requires size { size ≤ 4 }
+    requires room { at + size ≤ length line.old }
     requires four { length four.now ≡ 4 }
-    ensures { (n : ℕ) → n < at + 2 → slice_index line.new n
+    ensures { (n : ℕ) → n < at + size → slice_index line.new n
         ≡ (if nat_le at n then slice_index four.now (n - at) else slice_index line.old n) }
 {
-    line[at..at + 2].copy_from_slice(&four[..2]);
-}
-
-// Writes the first three of four bytes to a place.
-#[inline(always)]
-fn put_three(line: &mut [u8], at: usize, four: &[u8; 4])
-    requires room { at + 3 ≤ length line.old }
-    requires four { length four.now ≡ 4 }
-    ensures { (n : ℕ) → n < at + 3 → slice_index line.new n
-        ≡ (if nat_le at n then slice_index four.now (n - at) else slice_index line.old n) }
-{
-    line[at..at + 3].copy_from_slice(&four[..3]);
+    line[at..at + size].copy_from_slice(&four[..size]);
 }
 
 // Writes four bytes to a place.

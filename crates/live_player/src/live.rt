@@ -12,7 +12,7 @@ ghost use Rattle.live_player.specs.Steps.{DrawsPack, TakesBlock, words_come};
 use crate::drawing::play;
 use crate::looking::{self, PICTURE_BYTES, ScreenPart};
 use arrayvec::ArrayVec;
-use cdg_instructions::SCREEN_PIXELS;
+use cdg_instructions::{SCREEN_PIXELS, read_word};
 use cdg_screen::PlainScreen;
 use raw_subcode::{BLOCK_BYTES, Form};
 use rw_code::{SYMBOLS, Word};
@@ -118,7 +118,7 @@ impl LivePlayer {
         ensures draws { DrawsPack pack.now self.old self.new }
         ensures drawn { PlaysOn (Drawn pack.now ∷ []) self.old self.new }
     {
-        looking::draw(&mut self.screen, pack);
+        self.screen.obey(&read_word(&Word::new(pack)));
     }
 
     /// A law: if no packs were drawn, the screen shows the blocks since the start.

@@ -1,15 +1,14 @@
 // The pixels and colours of a screen, as numbers.
-ghost use Rattle.std.specs.Prelude.{◌≡◌, ◌↔◌, ◌<◌, ◌≤◌, ◌+◌, ◌-◌, ◌/◌, ◌%◌, nat_le, if◌then◌else◌, ◌∷◌, [], ℕ, IsTrue, length, slice_index};
+ghost use Rattle.std.specs.Prelude.{◌≡◌, ◌↔◌, ◌<◌, ◌≤◌, ◌+◌, ◌-◌, ◌/◌, ◌%◌, nat_le, if◌then◌else◌, ℕ, IsTrue, length, slice_index};
 ghost use Rattle.cdg_instructions.specs.Sizes.{colour_values, screen_height, screen_pixels, screen_width};
 ghost use Rattle.cdg_screen.specs.Memory.{seen};
-ghost use Rattle.cdg_screen.specs.Standing.{screen_pixel, standing_after};
+ghost use Rattle.cdg_screen.specs.Standing.{screen_pixel};
 ghost use Rattle.cdg_screen.specs.Texts.{colour_bytes};
-ghost use Rattle.live_player.specs.Lives.{instruction_of, picture_byte, picture_bytes};
+ghost use Rattle.live_player.specs.Lives.{picture_byte, picture_bytes};
 ghost use Rattle.live_player.specs.Parts.{HasRoomFor, IsOnScreen, ShowsPart};
 
-use cdg_instructions::{SCREEN_HEIGHT, SCREEN_PIXELS, SCREEN_WIDTH, read_word};
+use cdg_instructions::{SCREEN_HEIGHT, SCREEN_PIXELS, SCREEN_WIDTH};
 use cdg_screen::PlainScreen;
-use rw_code::{SYMBOLS, Word};
 
 /// A rectangle of the screen, in pixels.
 #[derive(Clone, Copy)]
@@ -182,13 +181,6 @@ fn part(colour: u16, part: u32) -> u8
         1 => 17 * (colour / 16 % 16) as u8,
         _ => 17 * (colour % 16) as u8,
     }
-}
-
-/// Carries out the instruction of a pack. Its parity is ignored.
-pub(crate) fn draw(screen: &mut PlainScreen, pack: &[u8; SYMBOLS])
-    ensures { seen screen.new ≡ standing_after (seen screen.old) (instruction_of pack.now ∷ []) }
-{
-    screen.obey(&read_word(&Word::new(pack)));
 }
 
 /// How many pixels further right and further down in the memory the screen begins.

@@ -7,7 +7,7 @@ ghost use Rattle.live_player.specs.Formats.{pixel_size, shown_bytes, AreLineByte
 ghost use Rattle.live_player.specs.declared.format.PixelFormat.{PixelFormat};
 
 use crate::format::PixelFormat;
-use crate::line::{write_fours, write_threes, write_twos};
+use crate::line::{write_few, write_fours};
 use crate::pairs::{PAIRS, pairs_of};
 use crate::table::table_of;
 use crate::{PICTURE_BYTES, ScreenPart, part_of_screen};
@@ -173,8 +173,8 @@ fn write_colours(
     ensures { AreLineBytes (pixel_size format) pixels.now table.now line.new }
 {
     match format {
-        PixelFormat::Rgb565 => write_twos(pixels, table, pairs, line),
-        PixelFormat::Rgb => write_threes(pixels, table, pairs, line),
+        PixelFormat::Rgb565 => write_few(2, pixels, table, pairs, line),
+        PixelFormat::Rgb => write_few(3, pixels, table, pairs, line),
         _ => write_fours(pixels, table, pairs, line),
     }
 }

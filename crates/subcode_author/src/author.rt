@@ -175,10 +175,10 @@ impl<'a> PackSource for Scheduled<'a> {
     ghost use Rattle.raw_subcode.specs.Sizes.{slots_a_block};
     ghost use Rattle.rw_code.specs.Packs.{idle_pack};
     ghost use Rattle.stream_writer.specs.Given.{ComesLater};
-    ghost use Rattle.pack_schedule.specs.Woven.{ArePassedBy, IsPackAt};
+    ghost use Rattle.pack_schedule.specs.Woven.{ArePassedBy, IsPackAt, last_number};
 
     // The weaver's pack count saturates.
-    ghost comes = { λ s n pack. s.weaver.given + n < 4294967295
+    ghost comes = { λ s n pack. s.weaver.given + n < last_number
         → IsPackAt s.weaver.script (s.weaver.given + n) pack };
 
     fn next_pack(&mut self) -> Option<Pack> {
@@ -190,13 +190,13 @@ impl<'a> PackSource for Scheduled<'a> {
     fn pass_idle(&mut self) -> bool
         ensures passes { result ≡ true ↔ ArePassedBy self.old.weaver slots_a_block }
         ensures idle { result ≡ true → (k : ℕ) → k < slots_a_block
-            → self.old.weaver.given + k < 4294967295
+            → self.old.weaver.given + k < last_number
             → IsPackAt self.old.weaver.script (self.old.weaver.given + k) idle_pack }
         ensures later { result ≡ true → ComesLater
-            (λ n pack. self.old.weaver.given + n < 4294967295
+            (λ n pack. self.old.weaver.given + n < last_number
             → IsPackAt self.old.weaver.script (self.old.weaver.given + n) pack)
             slots_a_block
-            (λ n pack. self.new.weaver.given + n < 4294967295
+            (λ n pack. self.new.weaver.given + n < last_number
             → IsPackAt self.new.weaver.script (self.new.weaver.given + n) pack) }
         ensures stays { result ≡ false → self.new ≡ self.old }
     {
