@@ -51,10 +51,10 @@ SAID = {
     "| `disc` | a cue sheet, a picture script, and the numbers of blocks of the lead-in and of the audio |\n"
     "| `stream` | the list of the bytes of an authored stream of this disc (`IsAuthored`, part II) |\n"
     "| `packs` | the list of all packs in `stream`, each a list of 24 symbols |\n\n"
-    "Of `IsAuthored`, this part needs only the field `carries`: the n blocks of `stream` after the lead-in contain exactly the 4n - 7 packs in `packs`."
-    " `Spells c (texts words.now)` says that the words of the command line are those of the command c.",
+    "This part needs only the field `carries` of `IsAuthored`. The field says: if `stream` has n blocks after the lead-in, these contain exactly the"
+    " 4n - 7 packs in `packs`. `Spells c (texts words.now)` says that the words of the command line are those of the command c.",
     "Pictures are shown": "The clause of this part is about the command `screen`. It holds for every authored stream, regardless of the program that made"
-    " it. `HasFraming` (part IV) says that a stream has the P bits, the Q frames and the text packs (packs of CD-TEXT) of a disc. `IsScriptText text"
+    " the stream. `HasFraming` (part IV) says that a stream has the P bits, the Q frames and the text packs (packs of CD-TEXT) of a disc. `IsScriptText text"
     " script` (part VI) says two things: `text` has at most 64 MiB, and the grammar of picture scripts in [FORMATS](FORMATS.md) reads `text` as the"
     " script `script`.",
     "The stream that is written, and late pictures": "The clauses of this part are about the command `author`. `IsSheetText text sheet` (part VI) says"
@@ -65,8 +65,8 @@ SAID = {
 STATED = {
     "gives_back": "`gives_back`: A *damaged copy* of a stream has at most two wrong symbols in each word. If `convert` reads a damaged copy of an"
     " authored stream, it writes every pack of this stream. The clause says nothing about a call in which a read or a write fails.",
-    "shows": "`shows`: If `screen` reads a damaged copy of an authored stream, and the time `at` is from the ready time to the hold time of picture k,"
-    " it writes the image of a screen that shows picture k. The clause says nothing about a call in which a read or a write fails or memory runs out.",
+    "shows": "`shows`: Suppose that `screen` reads a damaged copy of an authored stream. If the time `at` is from the ready time to the hold time of"
+    " picture k, `screen` writes the image of a screen that shows picture k. The clause says nothing about a call in which a read or a write fails or memory runs out.",
     "authors": "`authors`: If a cue sheet and a script are valid and fit on the disc, `author` does one of two things. It writes the authored stream with"
     " the planned changes, or it reports the first late picture and writes nothing. The clause says nothing about a call in which a read or a write"
     " fails or memory runs out.",
@@ -94,8 +94,8 @@ definitions use these signs:
 | `result` | the return value of the call |
 | `x.0`, `x.1` | the first and the second part of the tuple x |
 | `x.name` | the field `name` of the record x |
-| `S.left first.old` | `Some` with the list of the bytes of the input `first` that are unread before the call, or `None` if they are not known |
-| `K.held out.old` | `Some` with the list of the bytes that were written to the output `out` before the call, or `None` if they are not known |
+| `S.left first.old` | the bytes of the input `first` that are unread before the call: `Some` with their list, or `None` if they are not known |
+| `K.held out.old` | the bytes that were written to the output `out` before the call: `Some` with their list, or `None` if they are not known |
 | `(x : A) → P` | P is true for every x of type A |
 | `(x y : A) → P` | P is true for every x and every y of type A |
 | `(x : A) × P` | P is true for at least one x of type A |
@@ -119,8 +119,8 @@ definitions use these signs:
 | `record { name = e; .. }` | a record in which the field `name` has the value e, and so on |
 | `record old { name = e }` | a copy of the record `old` in which the field `name` has the value e |
 | `abbrev`, `unfoldable` | the definition of a name: the name means the right side. The two words differ only for the checker. |
-| `data` | the definition of a type by a list of the kinds of its values. If the type is a statement, the list has the only ways in which it is true. |
-| `name : A → B ..` | in `data`, one kind of values: `name`, followed by a value of the type A and so on. The last type is the defined type. |
+| `data` | the definition of a type by a list of the kinds of its values. If the type is a statement, the list contains every way in which the statement is true. |
+| `name : A → B ..` | in `data`, one kind of values: `name`, followed by a value of each type but the last. The last type is the one that `data` defines. |
 | `{A : Type 0}` | an argument that is not written in a call, because the checker finds it |
 | `f x y` | the result of the function f for the arguments x and y |
 | `f : A → B → C` | f has two arguments, of the types A and B, and a result of the type C |
@@ -205,10 +205,10 @@ WORDS = {
     "enumerate_from": ("enumerate_from", "the list of pairs of each element and its number, counted from n"),
     "false": ("false", "the truth value of a false statement"),
     "filter": ("filter", "the elements for which a function is true, in their order"),
-    "filter_map": ("filter_map f xs", "the list of the values y for which the function f returns `Some y` for an element of the list xs, in their order"),
+    "filter_map": ("filter_map f xs", "the list of each value y that the function f returns as `Some y` for an element of the list xs, in the order of xs"),
     "find": ("find", "the first element for which a function is true, if there is one"),
-    "flat_map": ("flat_map f xs", "the joined lists that the function f returns for the elements of the list xs"),
-    "fold": ("fold f a xs", "the last value of a, if `f a x` replaces a for each element x of the list xs, in order"),
+    "flat_map": ("flat_map f xs", "the lists that the function f returns for the elements of the list xs, joined in this order"),
+    "fold": ("fold f a xs", "the last value of a after these steps: for each element x of the list xs, in order, `f a x` replaces a"),
     "is_ascii_digit": ("is_ascii_digit", "whether a character is one of 0 to 9"),
     "is_ascii_hexdigit": ("is_ascii_hexdigit", "whether a character is one of 0 to 9, a to f, A to F"),
     "is_ascii_uppercase": ("is_ascii_uppercase", "whether a character is one of A to Z"),
@@ -238,7 +238,7 @@ WORDS = {
     "replicate": ("replicate n x", "a list of n elements, each equal to x"),
     "reverse": ("reverse xs", "the list xs in reverse order"),
     "slice_cmp": ("slice_cmp", "the comparison of two lists in lexicographic order"),
-    "slice_index": ("slice_index xs n", "element n of the list xs, counted from 0; if there is no such element, 0."),
+    "slice_index": ("slice_index xs n", "element n of the list xs, counted from 0; if there is no such element, 0"),
     "slice_index_or": ("slice_index_or xs n d", "element n of the list xs, counted from 0; if there is no such element, d"),
     "slice_range": ("slice_range", "the elements of a list between two indices"),
     "slice_set": ("slice_set", "a list with another value at index n"),
@@ -510,7 +510,7 @@ class Book:
         out = [SAID[title], ""] if title in SAID else []
         if put_off:
             where = ", ".join(f"`{target[1]}` ({later[target]})" for target in put_off)
-            out += [f"This part also uses definitions of other parts: {where}.", ""]
+            out += [f"This part uses definitions that other parts show. The number of the other part follows each name: {where}.", ""]
         for comment, lines in claims:
             out += [" ".join(comment), ""] if comment else []
             out += ["```", *lines, "```", ""]
@@ -563,15 +563,16 @@ class Book:
             "begins with `--` explains the definition below it.",
             "",
             "`tools/write/list_definitions.py` copies clauses and definitions from the code, and `make check` compares this document with the code.",
-            "`make definitions` writes all nine parts to `docs/DEFINITIONS-WHOLE.md`. The headline is in parts I to III. This document has these parts:",
+            "The clauses of `run`, the laws for special inputs, and the definitions for these and for the library are divided into nine parts.",
+            "`make definitions` writes all nine to `docs/DEFINITIONS-WHOLE.md`. The headline is in parts I to III, which are in this document:",
         ]
-        out += ["", "| Part | Definitions | Lines |", "|---|---|---|"]
+        out += ["", "| Part | Number of definitions | Number of lines |", "|---|---|---|"]
         out += [f"| {ROMAN[k]}. {title} | {number} | {count} |" for k, (title, number, count) in enumerate(counts)]
         others = "; ".join(f"{ROMAN[k]}. {title}" for k, (title, _) in enumerate(PARTS) if k >= len(counts))
         out += ["", f"Only `docs/DEFINITIONS-WHOLE.md` has the other parts: {others}."] if others else []
         out += ["", "## How to read the definitions", "", "The function `run` has these arguments:", "", "```", *signature(), "```", "", KEY, "", *([WHOLE_KEY, ""] if is_whole else [])]
         named = ", ".join(f"`{name}` (crate `{crate}`)" for name, crate in SHOWN_TYPES.items())
-        out += [f"The definitions use these types of the code: {named}. They have these kinds of values (*variants*):", "", "```"]
+        out += [f"The definitions use these types of the code: {named}. These types have the following kinds of values (*variants*):", "", "```"]
         out += ["\n\n".join("\n".join(variants(crate, name)) for name, crate in SHOWN_TYPES.items()), "```", ""]
         out += ["The definitions use these words of the standard library:", "", "| Word | Meaning |", "|---|---|"]
         out += [f"| `{WORDS[word][0]}` | {WORDS[word][1]} |" for word in sorted(self.words) if word in WORDS]

@@ -37,8 +37,8 @@ WritesOrIsLate disc out (Damaged n) = ⊥
 WritesOrIsLate disc out Usage = ⊥
 WritesOrIsLate disc out (Refused why) = ⊥
 
--- `bytes` is a damaged copy, in this form, of the raw stream `stream`: at most two symbols of each word are wrong. The copy
--- consists of whole units.
+-- `bytes` is a damaged copy of the raw stream `stream`. The copy has this form, and consists of at most `most_units` whole
+-- units (blocks or sectors). In each word of the program, at most two symbols are wrong.
 pub record IsDamagedCopy (form : Form) (lead_in : ℕ) (stream bytes : List ℕ) : Type 0 where
   pub few : length bytes ≤ most_units * unit_size form
   pub whole : length bytes % unit_size form ≡ 0

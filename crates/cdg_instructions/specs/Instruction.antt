@@ -81,7 +81,7 @@ colour_symbols colour = colour / 64 ∷ colour % 64 ∷ []
 abbrev pub tile_symbols : ℕ → ℕ → ℕ → ℕ → List ℕ → List ℕ
 tile_symbols colour0 colour1 row column lines = colour0 ∷ colour1 ∷ row ∷ column ∷ lines
 
--- the content of a scroll: a colour, and for each direction the move and the offset in one symbol
+-- the content of a scroll: a colour, a symbol with the move and the offset across, a symbol with those down, and zeros
 abbrev pub scroll_symbols : ℕ → ℕ → ℕ → ℕ → ℕ → List ℕ
 scroll_symbols colour across h down v = colour ∷ (16 * across + h) ∷ (16 * down + v) ∷ replicate 13 0
 

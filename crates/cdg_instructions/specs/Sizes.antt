@@ -6,7 +6,7 @@ use Rattle.std.specs.Prelude.{ℕ}
 abbrev pub tile_width : ℕ
 tile_width = 6
 
--- the height of a tile in pixels: an instruction has a symbol for each line, after the row and column (IEC 60908)
+-- the height of a tile in pixels: an instruction that draws a tile has one symbol for each line of pixels (IEC 60908)
 abbrev pub tile_height : ℕ
 tile_height = 12
 

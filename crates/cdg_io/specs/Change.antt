@@ -2,7 +2,7 @@
 use Rattle.std.specs.Prelude.{ℕ, List, Option}
 use Rattle.cdg_io.specs.Causes.{Count}
 
--- the unread bytes of an input, or the bytes written to an output; or `None` if they are not known
+-- the type for the unread bytes of an input, and for the bytes written to an output: `None` if these bytes are not known
 abbrev pub Bytes : Type 0
 Bytes = Option (List ℕ)
 
@@ -11,7 +11,7 @@ pub record Change (A : Type 0) : Type 0 where
   pub before : A
   pub after : A
 
--- the result of the function `see` for an object, before and after a call
+-- the two results of the function `see` for an object: one before a call and one after it
 abbrev pub change : {A O : Type 0} → (O → A) → O → O → Change A
 change see before after = record { before = see before; after = see after }
 

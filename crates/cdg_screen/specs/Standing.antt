@@ -62,14 +62,14 @@ source_x across x = source screen_width tile_width across x
 abbrev pub source_y : ℕ → ℕ → ℕ
 source_y down y = source screen_height tile_height down y
 
--- whether a scroll moves the pixel from inside the memory: `from` is the place from `source`, to which `size` was added
+-- whether a scroll moves a pixel from a place inside the memory. `from` is the result of `source`: this place plus `size`.
 abbrev pub is_inside : ℕ → ℕ → Bool
 is_inside size from = nat_le size from && nat_lt from (2 * size)
 
 -- In the next five definitions, the list `before` has the last instruction first, and `start` is the state before all
 -- instructions.
 
--- pixel (x, y) of the memory after the instructions of a list in reverse order: the last instruction is first
+-- pixel (x, y) of the memory after some instructions. The list contains the last instruction first.
 abbrev pub memory_from : (ℕ → ℕ → ℕ) → List Instr → ℕ → ℕ → ℕ
 memory_from start [] x y = start x y
 memory_from start (MemoryPreset colour repeat ∷ before) x y = colour
@@ -89,13 +89,15 @@ memory_from start (ScrollCopy colour across h down v ∷ before) x y =
     memory_from start before (source_x across x % screen_width) (source_y down y % screen_height)
 memory_from start (_ ∷ before) x y = memory_from start before x y
 
--- the border after the instructions of a list in reverse order: the last colour to which it was set
+-- the border after some instructions: the last colour to which they set it, or else `start`. The list contains the last
+-- instruction first.
 abbrev pub border_from : ℕ → List Instr → ℕ
 border_from start [] = start
 border_from start (BorderPreset colour ∷ before) = colour
 border_from start (_ ∷ before) = border_from start before
 
--- colour k of the table after the instructions of a list in reverse order: the last value to which it was set
+-- colour k of the table after some instructions: the last value to which they set it, or else `start k`. The list contains
+-- the last instruction first.
 abbrev pub colour_from : (ℕ → ℕ) → List Instr → ℕ → ℕ
 colour_from start [] k = start k
 colour_from start (ColoursLow colours ∷ before) k =
@@ -104,13 +106,14 @@ colour_from start (ColoursHigh colours ∷ before) k =
     let old = colour_from start before k in if nat_lt k 8 then old else slice_index colours (k - 8)
 colour_from start (_ ∷ before) k = colour_from start before k
 
--- level k after the instructions of a list in reverse order: the last value to which it was set
+-- level k of transparency after some instructions: the last value to which they set it, or else `start k`. The list
+-- contains the last instruction first.
 abbrev pub level_from : (ℕ → ℕ) → List Instr → ℕ → ℕ
 level_from start [] k = start k
 level_from start (Transparency levels ∷ before) k = slice_index levels k
 level_from start (_ ∷ before) k = level_from start before k
 
--- the offsets across and down after the instructions of a list in reverse order: the last instruction is first
+-- the offsets across and down after some instructions. The list contains the last instruction first.
 abbrev pub offsets_from : ℕ × ℕ → List Instr → ℕ × ℕ
 offsets_from start [] = start
 offsets_from start (ScrollPreset colour across h down v ∷ before) = (h, v)

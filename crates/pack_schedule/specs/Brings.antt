@@ -55,7 +55,7 @@ pub record Brings (script : List Drawing) (k : ℕ) (now : Standing) (instrs : L
   pub shows : ShowsPicture script k (standing_after now instrs)
   pub sets : k ≡ 0 → SetsAll instrs
 
--- The instructions are a change of picture k. They draw this picture on every screen that is allowed before it
+-- The instructions are a change of picture k. They draw this picture on every screen that is allowed before the picture
 -- (`IsBefore`). No shorter list draws the picture on any of these screens.
 pub record IsChange (script : List Drawing) (k : ℕ) (instrs : List Instr) : Type 0 where
   pub brings : (now : Standing) → IsBefore script k now → Brings script k now instrs
@@ -66,7 +66,7 @@ pub record IsChange (script : List Drawing) (k : ℕ) (instrs : List Instr) : Ty
 abbrev pub IsNeed : List Drawing → ℕ → ℕ → Type 0
 IsNeed script k need = (instrs : List Instr) × IsChange script k instrs × (length instrs ≡ need)
 
--- Picture k needs `need` instructions, which are more than `free`, the number of free packs that `author` reports.
+-- Picture k needs `need` instructions, and `need` is greater than `free`, the number of free packs that `author` reports.
 pub record CannotBeReady (script : List Drawing) (k need free : ℕ) : Type 0 where
   pub fewest : IsNeed script k need
   pub more : free < need

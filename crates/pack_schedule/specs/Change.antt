@@ -50,12 +50,13 @@ IsStart k (Some colour) = colour < colour_count
 IsStart zero None = ⊥
 IsStart (suc k) None = ⊤
 
--- the instruction that sets the memory to the colour of a start, if it has one
+-- the instruction that sets the memory to the colour of the start, or no instruction if the start is `None`
 abbrev pub preset_of : Option ℕ → List Instr
 preset_of (Some colour) = MemoryPreset colour 0 ∷ []
 preset_of None = []
 
--- the pixels of a tile before its plan for picture k: the colour of the start, or those of the previous picture
+-- the pixels of a tile before the instructions of its plan for picture k: all have the colour of the start. If the start is
+-- `None`, they are those of the previous picture.
 abbrev pub tiles_before : List Drawing → ℕ → Option ℕ → ℕ → ℕ → List ℕ
 tiles_before script k (Some colour) row column = replicate tile_pixels colour
 tiles_before script k None row column = picture_tile script (k - 1) row column

@@ -27,7 +27,8 @@ unfoldable pub planned_length : List Drawing → ℕ → Option ℕ → ℕ
 planned_length script k start =
     length (preset_of start) + length (settings script k) + tile_steps script k start
 
--- the value with the smallest `number` in the list that begins with `best`; if there are several, the first of them
+-- `best` or an element of the list: the one with the smallest result of the function `number`. If several have this result,
+-- it is the first of them.
 unfoldable pub first_least : {X : Type 0} → (X → ℕ) → X → List X → X
 first_least number best [] = best
 first_least number best (x ∷ rest) =
@@ -38,7 +39,8 @@ abbrev pub preferred : ℕ → Option ℕ
 preferred zero = Some 0
 preferred (suc k) = None
 
--- the start with the shortest list: of several, the preferred start, or else the colour with the lowest number
+-- the start with the shortest list. If several starts have lists of this length: the preferred start, if it is one of them,
+-- and otherwise the colour with the lowest number
 unfoldable pub chosen_start : List Drawing → ℕ → Option ℕ
 chosen_start script k = first_least (planned_length script k) (preferred k) (map Some (below colour_count))
 

@@ -20,7 +20,7 @@ start_of script (suc k) = whole_packs (hold_time script k)
 abbrev pub IsInTime : List Drawing → ℕ → ℕ → Type 0
 IsInTime script k need = start_of script k + need + packs_kept_back ≤ slots_a_block * ready_time script k
 
--- the number of packs that are free for picture k: from its start on, and complete at its ready time
+-- the number of packs that are free for picture k: those from its first free pack on that are complete at its ready time
 abbrev pub free_packs : List Drawing → ℕ → ℕ
 free_packs script k = whole_packs (ready_time script k) - start_of script k
 
@@ -29,8 +29,8 @@ abbrev pub CanBeReady : List Drawing → ℕ → Type 0
 CanBeReady script k = (need : ℕ) × IsNeed script k need × IsInTime script k need
 
 -- For each picture, the packs contain a list of instructions for which `IsOne` is true. The list begins at the first free
--- pack of the picture (`start_of`) and is complete at its ready time. All other packs are idle. `blocks` is the number of
--- blocks in the program; no hold time is greater.
+-- pack of the picture (`start_of`) and is complete at the ready time of the picture. All other packs are idle. `blocks` is
+-- the number of blocks in the program; no hold time is greater.
 pub record IsScheduleOf (IsOne : List Drawing → ℕ → List Instr → Type 0) (script : List Drawing) (blocks : ℕ)
     (packs : List (List ℕ)) : Type 0 where
   pub count : length packs ≡ whole_packs blocks

@@ -4,8 +4,8 @@ use Rattle.cdg_instructions.specs.Sizes.{colour_count, colour_values, tile_heigh
 use Rattle.cdg_screen.specs.Standing.{Standing, screen_pixel}
 use Rattle.picture_script.specs.Script.{Drawing, pictures, ready_time, hold_time, picture_pixel, picture_border, picture_colour}
 
--- The screen shows picture k of the script: it has the border and the colours of the picture, and its pixels in the window
--- (288 by 192 pixels, inside the border).
+-- The screen shows picture k of the script: it has the border, the colours and the pixels of this picture. The pixels are
+-- those in the window (288 by 192 pixels, inside the border).
 pub record ShowsPicture (script : List Drawing) (k : ℕ) (now : Standing) : Type 0 where
   pub pixels : (x y : ℕ) → x < window_width → y < window_height
       → screen_pixel now (x + tile_width) (y + tile_height) ≡ picture_pixel script k x y

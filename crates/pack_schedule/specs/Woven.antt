@@ -23,8 +23,8 @@ pub record ArePassedBy (woven : Woven) (packs : ℕ) : Type 0 where
       → (start_of woven.script k + length (planned_change woven.script k) ≤ woven.given)
       ⊎ (woven.given + packs ≤ start_of woven.script k)
 
--- Pack n is right: in the planned change of a picture, it is the codeword of the instruction at this place of the change.
--- Outside of all planned changes, it is idle.
+-- Pack n is as planned. If it is in the planned change of a picture, it is the codeword of the instruction at the same
+-- place of this change. If it is in no planned change, it is idle.
 pub record IsPackAt (script : List Drawing) (n : ℕ) (pack : List ℕ) : Type 0 where
   pub changed : (k : ℕ) → k < pictures script → start_of script k ≤ n
       → n < start_of script k + length (planned_change script k) →

@@ -3,7 +3,7 @@ use Rattle.std.specs.Prelude.{ℕ, zero, suc, ◌+◌, ◌-◌, ◌*◌, Bool, L
 use Rattle.bit_lists.specs.Counting.{below}
 use Rattle.cdg_instructions.specs.Sizes.{tile_height, tile_pixels, tile_width}
 
--- a line of a script: a command and its values, in the order of `drawn` below; times are in blocks
+-- a line of a script: a command and its values. The definition of `drawn` (below) names these values. Times are in blocks.
 pub data Drawing : Type 0 where
   Colour : ℕ → ℕ → Drawing
   Border : ℕ → Drawing
@@ -50,7 +50,7 @@ pub record Picture : Type 0 where
   pub border : ℕ
   pub colour : ℕ → ℕ
 
--- the picture before the first line: all is 0
+-- the picture before the first line of a script: all pixels, the border and all colours are 0
 abbrev pub blank_picture : Picture
 blank_picture = record { pixel = λ x y. 0; border = 0; colour = λ n. 0 }
 
@@ -72,7 +72,7 @@ drawn old (Show ready hold) = old
 abbrev pub drawn_by : List Drawing → Picture
 drawn_by lines = fold drawn blank_picture lines
 
--- the colour number of pixel (x, y) of picture k, as the lines before its show line draw it
+-- the colour number that the lines before the show line of picture k give to pixel (x, y)
 unfoldable pub picture_pixel : List Drawing → ℕ → ℕ → ℕ → ℕ
 picture_pixel script k x y = (drawn_by (lines_before script k)).pixel x y
 

@@ -33,7 +33,7 @@ pub record IsPlanarForm (block planar : List ℕ) : Type 0 where
       has_bit (7 - j) (slice_index planar (12 * channel + k))
       ≡ channel_bit channel (slice_index block (8 * k + j))
 
--- the number of bytes in a unit of a form: a sector or a block
+-- the number of bytes in a unit: in the form `Sector` a sector, and otherwise a block
 abbrev pub unit_size : Form → ℕ
 unit_size Sector = sector_bytes
 unit_size _ = block_bytes

@@ -21,8 +21,8 @@ exchanged a b i = if i == a then b else (if i == b then a else i)
 unfoldable pub swapped : ℕ → ℕ
 swapped i = exchanged 1 18 (exchanged 2 5 (exchanged 3 23 i))
 
--- the place of symbol i of pack n in the list of program symbols, which consists of slots of 24 symbols: pack n begins in
--- slot n and ends in slot n + 7
+-- the place of symbol i of pack n in the list of program symbols. This list consists of slots of 24 symbols. Pack n begins
+-- in slot n and ends in slot n + 7.
 abbrev pub place : ℕ → ℕ → ℕ
 place n i = symbols_a_slot * (n + swapped i % span) + swapped i
 

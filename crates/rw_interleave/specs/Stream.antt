@@ -11,7 +11,7 @@ use Rattle.raw_subcode.specs.declared.form.Form.{Form}
 use Rattle.raw_subcode.specs.declared.form.Form.TheVariants.{Cooked}
 use Rattle.rw_code.specs.Packs.{idle_pack}
 
--- the number of whole words in `blocks` blocks of a form
+-- the number of whole words in `blocks` blocks of a stream in this form
 abbrev pub word_count : Form → ℕ → ℕ
 word_count Cooked blocks = slots_a_block * blocks
 word_count _ blocks = whole_packs blocks
@@ -35,8 +35,8 @@ bad_count found = count_by is_none found
 abbrev pub all_packs : Form → ℕ → List (List ℕ) → List (List ℕ)
 all_packs form blocks packs = packs ++ replicate (word_count form blocks - length packs) idle_pack
 
--- `others` contains each word of `symbols` with at most two wrong symbols. In a cooked stream, `others` has further words
--- after these; each has at most two symbols that are not 0.
+-- Each word of `symbols` differs in at most two symbols from the word of `others` with the same number. In a cooked stream,
+-- `others` has further words after these. In each further word, at most two symbols are not 0.
 pub record IsDamaged (symbols : List ℕ) (form : Form) (others : List ℕ) : Type 0 where
   pub size : length others ≡ length symbols
   pub words : (n : ℕ) → n < whole_packs (length symbols / block_bytes)

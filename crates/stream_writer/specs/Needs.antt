@@ -20,7 +20,8 @@ text_packs sheet = packs_of (texts_of_sheet sheet)
 abbrev pub lead_in_need : CueSheet → ℕ
 lead_in_need sheet = max (3 * (length sheet.tracks + 3)) ((length (text_packs sheet) + 3) / 4)
 
--- If there is a lead-in, it has room for the texts and the table of contents.
+-- If there is a lead-in, it has room for the texts and the table of contents, and there are at most `most_text_packs` text
+-- packs.
 abbrev pub HasRoom : CueSheet → ℕ → Type 0
 HasRoom sheet lead_in = 0 < lead_in
     → (length (text_packs sheet) ≤ most_text_packs) × (lead_in_need sheet ≤ lead_in)

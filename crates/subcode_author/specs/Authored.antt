@@ -27,8 +27,8 @@ disc_of sheet script lead_in audio = record {
   audio = audio;
 }
 
--- The bytes are an authored stream of the disc: its packs are a schedule of the script, and its P bits, Q frames and
--- CD-TEXT are those of the sheet.
+-- The bytes are an authored stream of the disc. The packs of the stream are a schedule of the script. The P bits, Q frames
+-- and CD-TEXT of the stream are those of the sheet. If there is a lead-in, it is long enough for the sheet.
 pub record IsAuthored (disc : Disc) (bytes : List ℕ) (packs : List (List ℕ)) : Type 0 where
   pub schedule : IsSchedule disc.script (program_blocks disc.sheet disc.audio) packs
   pub framing : HasFraming (layout_of disc.sheet disc.audio) (text_packs disc.sheet) disc.lead_in bytes

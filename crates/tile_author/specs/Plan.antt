@@ -13,7 +13,7 @@ is_combination [] number = number == 0
 is_combination (first ∷ rest) number =
     is_combination rest number || is_combination rest (bit_xor first number)
 
--- the list `members`, followed by each number that is not a combination of the members before it
+-- the list `members`, followed by each number of the second list that is not a combination of the members before it
 unfoldable pub basis_from : List ℕ → List ℕ → List ℕ
 basis_from members [] = members
 basis_from members (number ∷ rest) =
@@ -31,7 +31,7 @@ basis pixels = basis_from [] (differences_from_first pixels)
 unfoldable pub weight : List ℕ → ℕ
 weight pixels = max 1 (length (basis pixels))
 
--- the combination of members that equals a number: bit j is 1 if member j is one of them
+-- the members whose combination equals this number: bit j of the result is 1 if member j is one of these members
 unfoldable pub selection : List ℕ → ℕ → ℕ
 selection [] number = 0
 selection (first ∷ rest) number =
@@ -44,7 +44,8 @@ combination [] chosen = 0
 combination (first ∷ rest) chosen =
     bit_xor (if has_bit 0 chosen then first else 0) (combination rest (chosen / 2))
 
--- for each pixel, whether member j of the basis is in the combination that equals its difference from the first pixel
+-- The difference of each pixel from the first pixel is a combination of members of the basis. For each pixel: whether
+-- member j is in this combination
 unfoldable pub member_bits : List ℕ → ℕ → List Bool
 member_bits pixels j = map (λ d. has_bit j (selection (basis pixels) d)) (differences_from_first pixels)
 
@@ -52,7 +53,8 @@ member_bits pixels j = map (λ d. has_bit j (selection (basis pixels) d)) (diffe
 unfoldable pub tile_lines : List ℕ → ℕ → List ℕ
 tile_lines pixels j = map number_of (parts tile_height tile_width (member_bits pixels j))
 
--- instruction j (from 0) of a plan: it draws the pixels if `draws` is true, otherwise it combines them with the old ones
+-- instruction j (from 0) of a plan. If `draws` is true, the plan draws the pixels. Otherwise, it combines them with the old
+-- pixels.
 unfoldable pub planned : Bool → ℕ → ℕ → List ℕ → ℕ → Instr
 planned draws row column pixels j =
     let colour0 = if j == 0 then slice_index pixels 0 else 0 in
@@ -65,11 +67,13 @@ planned draws row column pixels j =
 unfoldable pub delta : List ℕ → List ℕ → List ℕ
 delta old new = map (λ p. bit_xor (slice_index old p) (slice_index new p)) (below tile_pixels)
 
--- whether the old and the new pixels of a tile are equal, or two other lists of at most 72 numbers; a missing number is 0
+-- whether two lists of at most 72 numbers are equal, for example the old and the new pixels of a tile. A missing number
+-- counts as 0.
 unfoldable pub are_equal : List ℕ → List ℕ → Bool
 are_equal old new = list_all (λ d. d == 0) (delta old new)
 
--- the plan of a tile: nothing if unchanged; else draw it, or combine the differences with the old pixels if this is shorter
+-- the plan of a tile: no instructions if the tile does not change. Otherwise, the instructions draw the new pixels; or, if
+-- fewer instructions do this, they combine the differences with the old pixels.
 unfoldable pub plan : ℕ → ℕ → List ℕ → List ℕ → List Instr
 plan row column old new =
     let d = delta old new in

@@ -63,7 +63,7 @@ abbrev pub program_blocks : CueSheet → ℕ → ℕ
 program_blocks sheet audio =
     pause_blocks + audio + (pregaps_to sheet (length sheet.tracks) + postgaps_to sheet (length sheet.tracks))
 
--- the greatest of some numbers, or 0
+-- the greatest of some numbers, or 0 if there are none
 unfoldable pub greatest : List ℕ → ℕ
 greatest [] = 0
 greatest (x ∷ xs) = max x (greatest xs)
