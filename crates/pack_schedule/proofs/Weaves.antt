@@ -12,7 +12,7 @@ use Rattle.rw_code.specs.Packs.{idle_pack}
 use Rattle.pack_schedule.specs.Schedule.{start_of}
 use Rattle.pack_schedule.specs.PlannedChange.{chosen_start, planned_from, planned_change}
 use Rattle.pack_schedule.specs.Survey.{nothing_planned, IsSurvey}
-use Rattle.pack_schedule.specs.Woven.{IsPackAt, last_number}
+use Rattle.pack_schedule.specs.Woven.{IsPackAt, most_counted}
 use Rattle.picture_script.specs.Board.{StandsBefore}
 use Rattle.pack_schedule.specs.Weaving.{IsWeaving}
 use Rattle.pack_schedule.specs.declared.weaver.ChangeAtHand.{ChangeAtHand}
@@ -43,7 +43,7 @@ change_planned script survey k preset change h lt is made =
 pub first_weaves : (script : List Drawing) (at_hand : ChangeAtHand) → IsSurvey script at_hand.survey
     → at_hand.k ≡ 0 → StandsBefore script 0 at_hand.before → StandsBefore script 0 at_hand.now
     → (0 < pictures script → (at_hand.change ≡ planned_change script 0) × (at_hand.start ≡ start_of script 0))
-    → (at_hand.k ≡ pictures script → at_hand.start ≡ last_number)
+    → (at_hand.k ≡ pictures script → at_hand.start ≡ most_counted)
     → IsWeaving script at_hand 0
 first_weaves script at_hand surveyed k before now planned last =
     let none : 0 ≡ at_hand.k = sym k in
@@ -68,7 +68,7 @@ pub next_weaves : (script : List Drawing) (old new : ChangeAtHand) (given : ℕ)
     → StandsBefore script (old.k + 1) new.now
     → (old.k + 1 < pictures script
     → (new.change ≡ planned_change script (old.k + 1)) × (new.start ≡ start_of script (old.k + 1)))
-    → (new.k ≡ pictures script → new.start ≡ last_number)
+    → (new.k ≡ pictures script → new.start ≡ most_counted)
     → IsWeaving script new given
 next_weaves script old new given w inside done survey k before now planned last =
     let next : old.k + 1 ≡ new.k = sym k in

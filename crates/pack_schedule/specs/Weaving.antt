@@ -5,7 +5,7 @@ use Rattle.picture_script.specs.Board.{Board, IsBlank, IsPicture, StandsBefore}
 use Rattle.pack_schedule.specs.Schedule.{start_of}
 use Rattle.pack_schedule.specs.PlannedChange.{planned_change}
 use Rattle.pack_schedule.specs.Survey.{IsSurvey}
-use Rattle.pack_schedule.specs.Woven.{last_number}
+use Rattle.pack_schedule.specs.Woven.{most_counted}
 use Rattle.pack_schedule.specs.declared.weaver.ChangeAtHand.{ChangeAtHand}
 
 -- The picture before picture k is on the canvas. If k is 0, the canvas is empty.
@@ -24,5 +24,5 @@ pub record IsWeaving (script : List Drawing) (at_hand : ChangeAtHand) (given : �
   pub before_stands : StandsBefore script at_hand.k at_hand.before
   pub now_stands : StandsBefore script at_hand.k at_hand.now
   -- after the last change, `start` has the maximum
-  pub no_start : at_hand.k ≡ pictures script → at_hand.start ≡ last_number
+  pub no_start : at_hand.k ≡ pictures script → at_hand.start ≡ most_counted
   pub sent : (j : ℕ) → j < at_hand.k → start_of script j + length (planned_change script j) ≤ given

@@ -8,8 +8,8 @@ use Rattle.pack_schedule.specs.Schedule.{start_of}
 use Rattle.pack_schedule.specs.PlannedChange.{planned_change}
 
 -- the largest number of type u32: the count of packs saturates here
-abbrev pub last_number : ℕ
-last_number = 4294967295
+abbrev pub most_counted : ℕ
+most_counted = 4294967295
 
 -- a script, and the number of its packs so far
 pub record Woven : Type 0 where
@@ -18,7 +18,7 @@ pub record Woven : Type 0 where
 
 -- Each change is finished, or has none of the next `packs` packs. The numbers of these packs are below 2^32.
 pub record ArePassedBy (woven : Woven) (packs : ℕ) : Type 0 where
-  pub fits : woven.given + packs ≤ last_number
+  pub fits : woven.given + packs ≤ most_counted
   pub apart : (k : ℕ) → k < pictures woven.script
       → (start_of woven.script k + length (planned_change woven.script k) ≤ woven.given)
       ⊎ (woven.given + packs ≤ start_of woven.script k)

@@ -161,7 +161,7 @@ impl<'a> Weaver<'a> {
     ghost use Rattle.std.specs.Prelude.{◌≡◌, ◌↔◌, ◌<◌, ◌+◌, ℕ, true, false, IfOk, IsNone, min, unwrap_or};
     ghost use Rattle.rw_code.specs.Packs.{idle_pack};
     ghost use Rattle.pack_schedule.specs.Survey.{IsSurvey};
-    ghost use Rattle.pack_schedule.specs.Woven.{ArePassedBy, IsPackAt, last_number};
+    ghost use Rattle.pack_schedule.specs.Woven.{ArePassedBy, IsPackAt, most_counted};
 
     /// A weaver before its first pack.
     pub fn start(
@@ -185,7 +185,7 @@ impl<'a> Weaver<'a> {
     pub fn next(&mut self) -> Pack
         ensures pack { IsPackAt self.old.script self.old.given result }
         ensures script { self.new.script ≡ self.old.script }
-        ensures given { self.new.given ≡ min (self.old.given + 1) last_number }
+        ensures given { self.new.given ≡ min (self.old.given + 1) most_counted }
     {
         match self.next_unless_idle() {
             Some(pack) => pack,
@@ -199,7 +199,7 @@ impl<'a> Weaver<'a> {
         ensures pack { IsPackAt self.old.script self.old.given (unwrap_or result idle_pack) }
         ensures none { IsNone result ↔ (unwrap_or result idle_pack ≡ idle_pack) }
         ensures script { self.new.script ≡ self.old.script }
-        ensures given { self.new.given ≡ min (self.old.given + 1) last_number }
+        ensures given { self.new.given ≡ min (self.old.given + 1) most_counted }
     {
         self.at_hand.skip_sent(self.script, self.given);
         let pack = self.at_hand.pack(self.script, self.given);

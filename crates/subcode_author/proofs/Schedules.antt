@@ -10,7 +10,7 @@ use Rattle.pack_schedule.specs.Schedule.{start_of, IsInTime, IsSchedule}
 use Rattle.pack_schedule.specs.PlannedChange.{planned_change}
 use Rattle.pack_schedule.specs.Shown.{AreColoursInRange}
 use Rattle.pack_schedule.specs.Survey.{IsSurvey, IsWithin}
-use Rattle.pack_schedule.specs.Woven.{Woven, IsPackAt, ArePacks, last_number}
+use Rattle.pack_schedule.specs.Woven.{Woven, IsPackAt, ArePacks, most_counted}
 use Rattle.pack_schedule.specs.declared.surveys.PlannedChange.{PlannedChange}
 use Rattle.rw_code.specs.Packs.{idle_pack}
 use Rattle.cdg_io.specs.Change.{from_to}
@@ -67,7 +67,7 @@ change_ends script blocks known k lt =
 
 -- `pack` is the pack at number n from here, as long as the count of the weaver is not saturated
 abbrev pub PackOf : Woven → ℕ → List ℕ → Type 0
-PackOf woven n pack = woven.given + n < last_number → IsPackAt woven.script (woven.given + n) pack
+PackOf woven n pack = woven.given + n < most_counted → IsPackAt woven.script (woven.given + n) pack
 
 -- a weaver before its first pack
 pub record IsFirst (script : List Drawing) (woven : Woven) : Type 0 where
@@ -75,7 +75,7 @@ pub record IsFirst (script : List Drawing) (woven : Woven) : Type 0 where
   pub given_is : woven.given ≡ 0
 
 pack_at : (script : List Drawing) (woven : Woven) → IsFirst script woven → (n : ℕ) (pack : List ℕ)
-    → n < last_number → PackOf woven n pack
+    → n < most_counted → PackOf woven n pack
     → IsPackAt script n pack
 pack_at script woven first n pack small comes =
     let here : woven.given + n ≡ n = omega (arith, first.given_is) in
@@ -103,7 +103,7 @@ PacksAreSchedule = (script : List Drawing) (blocks : ℕ) (survey : List Planned
     → IsSchedule script blocks packs
 
 given_of : (script : List Drawing) (woven : Woven) (many : ℕ) (packs : List (List ℕ)) → IsFirst script woven
-    → many < last_number → AreGiven (PackOf woven) 0 many packs
+    → many < most_counted → AreGiven (PackOf woven) 0 many packs
     → AreGiven (IsPackAt script) 0 many packs
 given_of script woven many packs first small given = record {
   count = given.count;
@@ -139,7 +139,7 @@ is_authored schedule sheet script texts lead_in audio bytes packs texts_are room
   planned = in_turn script (program_blocks sheet audio) packs stream.given_are;
 }
 
-few_given : (blocks : ℕ) → blocks ≤ 449999 → whole_packs blocks < last_number
+few_given : (blocks : ℕ) → blocks ≤ 449999 → whole_packs blocks < most_counted
 few_given blocks few = omega arith
 
 of_script : (script : List Drawing) (woven : Woven) (layout : DiscLayout) (texts : List (List ℕ))

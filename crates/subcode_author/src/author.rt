@@ -175,10 +175,10 @@ impl<'a> PackSource for Scheduled<'a> {
     ghost use Rattle.raw_subcode.specs.Sizes.{slots_a_block};
     ghost use Rattle.rw_code.specs.Packs.{idle_pack};
     ghost use Rattle.stream_writer.specs.Given.{ComesLater};
-    ghost use Rattle.pack_schedule.specs.Woven.{ArePassedBy, IsPackAt, last_number};
+    ghost use Rattle.pack_schedule.specs.Woven.{ArePassedBy, IsPackAt, most_counted};
 
     // The weaver's pack count saturates.
-    ghost comes = { λ s n pack. s.weaver.given + n < last_number
+    ghost comes = { λ s n pack. s.weaver.given + n < most_counted
         → IsPackAt s.weaver.script (s.weaver.given + n) pack };
 
     fn next_pack(&mut self) -> Option<Pack> {
@@ -190,13 +190,13 @@ impl<'a> PackSource for Scheduled<'a> {
     fn pass_idle(&mut self) -> bool
         ensures passes { result ≡ true ↔ ArePassedBy self.old.weaver slots_a_block }
         ensures idle { result ≡ true → (k : ℕ) → k < slots_a_block
-            → self.old.weaver.given + k < last_number
+            → self.old.weaver.given + k < most_counted
             → IsPackAt self.old.weaver.script (self.old.weaver.given + k) idle_pack }
         ensures later { result ≡ true → ComesLater
-            (λ n pack. self.old.weaver.given + n < last_number
+            (λ n pack. self.old.weaver.given + n < most_counted
             → IsPackAt self.old.weaver.script (self.old.weaver.given + n) pack)
             slots_a_block
-            (λ n pack. self.new.weaver.given + n < last_number
+            (λ n pack. self.new.weaver.given + n < most_counted
             → IsPackAt self.new.weaver.script (self.new.weaver.given + n) pack) }
         ensures stays { result ≡ false → self.new ≡ self.old }
     {

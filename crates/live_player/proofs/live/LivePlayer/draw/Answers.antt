@@ -9,7 +9,8 @@ use Rattle.live_player.proofs.LiveViews.{drawn_more}
 use Rattle.live_player.proofs.live.LivePlayer.draw.Goals as goal
 
 drawn : (c : goal.After-obey)
-    → seen c.obey.new.self ≡ standing_after (seen c.args.self.now.screen) (instruction_of c.args.pack.now ∷ [])
+    → seen c.obey.new.self
+    ≡ standing_after (seen c.args.self.now.screen) (instruction_of c.args.pack.now ∷ [])
 unfolding instruction_of
 drawn c =
     let read : c.read_word.result ≡ instruction_of c.args.pack.now =
