@@ -49,7 +49,7 @@ combination (first ∷ rest) chosen =
 unfoldable pub member_bits : List ℕ → ℕ → List Bool
 member_bits pixels j = map (λ d. has_bit j (selection (basis pixels) d)) (differences_from_first pixels)
 
--- `member_bits` as twelve lines of six bits; the leftmost pixel is the highest bit
+-- the bits of `member_bits` as twelve numbers of six bits, one number for each line; the leftmost pixel is the highest bit
 unfoldable pub tile_lines : List ℕ → ℕ → List ℕ
 tile_lines pixels j = map number_of (parts tile_height tile_width (member_bits pixels j))
 
