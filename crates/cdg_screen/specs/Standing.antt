@@ -69,7 +69,7 @@ is_inside size from = nat_le size from && nat_lt from (2 * size)
 -- In the next five definitions, the list `before` has the last instruction first, and `start` is the state before all
 -- instructions.
 
--- pixel (x, y) of the memory after some instructions. The list contains the last instruction first.
+-- the colour number of pixel (x, y) of the memory after some instructions. The list contains the last instruction first.
 abbrev pub memory_from : (ℕ → ℕ → ℕ) → List Instr → ℕ → ℕ → ℕ
 memory_from start [] x y = start x y
 memory_from start (MemoryPreset colour repeat ∷ before) x y = colour

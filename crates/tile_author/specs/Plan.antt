@@ -27,7 +27,7 @@ differences_from_first pixels = map (bit_xor (slice_index pixels 0)) pixels
 unfoldable pub basis : List ℕ → List ℕ
 basis pixels = basis_from [] (differences_from_first pixels)
 
--- the number of instructions that draw these pixels, or that combine them with the old pixels
+-- the number of instructions that a plan needs to draw these pixels, or to combine them with the old pixels
 unfoldable pub weight : List ℕ → ℕ
 weight pixels = max 1 (length (basis pixels))
 
