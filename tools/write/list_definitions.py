@@ -135,6 +135,12 @@ form *sector*, 2,352 bytes of audio precede each block. In the form *cooked*, th
 pictures and pixels are numbered from 0.
 """.strip()
 
+# What names of variants do not say.
+VARIANTS_KEY = """
+`Foreign` is a pack without graphics: symbol 0 is neither 0 nor 9. `Unknown` is a pack with an unknown instruction: symbol 0 is 9, but symbol
+1 is none of the numbers in the definition of `written_symbols` (part II).
+""".strip()
+
 # What only the whole document uses.
 WHOLE_KEY = """
 The parts IV to IX use further signs and words:
@@ -574,6 +580,7 @@ class Book:
         named = ", ".join(f"`{name}` (crate `{crate}`)" for name, crate in SHOWN_TYPES.items())
         out += [f"The definitions use these types of the code: {named}. These types have the following kinds of values (*variants*):", "", "```"]
         out += ["\n\n".join("\n".join(variants(crate, name)) for name, crate in SHOWN_TYPES.items()), "```", ""]
+        out += [VARIANTS_KEY, ""]
         out += ["The definitions use these words of the standard library:", "", "| Word | Meaning |", "|---|---|"]
         out += [f"| `{WORDS[word][0]}` | {WORDS[word][1]} |" for word in sorted(self.words) if word in WORDS]
         types = sorted({f"`{it.split('.')[-1]}` ({it.split('.')[0]})" for it in self.types if it.split(".")[-1] not in SHOWN_TYPES})

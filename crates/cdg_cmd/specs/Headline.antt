@@ -44,7 +44,7 @@ pub record IsDamagedCopy (form : Form) (lead_in : ℕ) (stream bytes : List ℕ)
   pub whole : length bytes % unit_size form ≡ 0
   pub damaged : IsDamaged (program_symbols Raw stream lead_in) form (program_symbols form bytes lead_in)
 
--- the packs that `convert` writes: the packs of the stream, and for a cooked stream seven idle packs after them
+-- the packs that `convert` writes: the packs of the stream, and seven idle packs after them if the input is cooked
 abbrev pub written_packs : Form → List (List ℕ) → List (List ℕ)
 written_packs Cooked packs = packs ++ replicate packs_kept_back idle_pack
 written_packs _ packs = packs

@@ -15,7 +15,8 @@ IsOfPlace row column (XorTile colour0 colour1 r c lines) = (r ≡ row) × (c ≡
     × InTileRange colour0 colour1 r c lines
 IsOfPlace row column _ = ⊥
 
--- the colour of pixel i in line j of a tile: `colour1` if its bit is set, otherwise `colour0`; bit 5 is the leftmost pixel
+-- the colour number of pixel i in line j of a tile: `colour1` if the bit of this pixel is set, and otherwise `colour0`. The
+-- leftmost pixel has bit 5.
 abbrev pub tile_colour : ℕ → ℕ → List ℕ → ℕ → ℕ → ℕ
 tile_colour colour0 colour1 lines i j = if has_bit (5 - i) (slice_index lines j) then colour1 else colour0
 

@@ -69,7 +69,7 @@ is_inside size from = nat_le size from && nat_lt from (2 * size)
 -- In the next five definitions, the list `before` has the last instruction first, and `start` is the state before all
 -- instructions.
 
--- pixel (x, y) of the memory after some instructions. The list contains the last instruction first.
+-- the colour number of pixel (x, y) of the memory after some instructions. The list contains the last instruction first.
 abbrev pub memory_from : (ℕ → ℕ → ℕ) → List Instr → ℕ → ℕ → ℕ
 memory_from start [] x y = start x y
 memory_from start (MemoryPreset colour repeat ∷ before) x y = colour
@@ -138,7 +138,8 @@ standing_after start instrs =
 abbrev pub IsWholeStanding : Standing → Type 0
 IsWholeStanding now = standing_after now [] ≡ now
 
--- pixel (x, y) of the screen: inside the window, a pixel of the memory, moved by the offsets; elsewhere, the border
+-- the colour number of pixel (x, y) of the screen: inside the window, that of pixel (x + h, y + v) of the memory;
+-- elsewhere, that of the border
 abbrev pub screen_pixel : Standing → ℕ → ℕ → ℕ
 screen_pixel now x y =
     if nat_le tile_width x && nat_le x window_right && nat_le tile_height y && nat_le y window_bottom

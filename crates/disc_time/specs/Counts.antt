@@ -26,8 +26,8 @@ last_block = 449999
 abbrev pub most_lead_in : ℕ
 most_lead_in = time_count
 
--- the maximum number of blocks in a program. The lead-out begins at the next block, and a time for this block must exist:
--- 99:59:74 at most.
+-- the maximum number of blocks in a program. The lead-out begins at the next block, and the time of this block can be at
+-- most 99:59:74.
 abbrev pub most_program : ℕ
 most_program = last_block
 

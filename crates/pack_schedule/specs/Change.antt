@@ -12,8 +12,8 @@ use Rattle.cdg_instructions.specs.declared.instr.Instr.TheVariants.{MemoryPreset
 abbrev pub window_places : List (ℕ × ℕ)
 window_places = flat_map (λ r. map (λ c. (r + 1, c + 1)) (below window_columns)) (below window_rows)
 
--- the instructions that set the border and both halves of the colours: all three for the first picture; for a later one,
--- only those whose values differ from the previous picture
+-- the instructions that set the border and both halves of the colours: all three for the first picture; for a later
+-- picture, only those that change a value of the previous picture
 abbrev pub settings : List Drawing → ℕ → List Instr
 settings script zero = BorderPreset (picture_border script 0) ∷ ColoursLow (low_colours script 0) ∷
     ColoursHigh (high_colours script 0) ∷ []

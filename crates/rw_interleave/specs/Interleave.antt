@@ -9,7 +9,7 @@ use Rattle.rw_code.specs.Codeword.{IsCodeword}
 abbrev pub span : ℕ
 span = 8
 
--- the delay of a pack in slots: the last symbol of a pack is seven slots after its first
+-- the delay of a pack in slots: its last symbol is seven slots after its first symbol
 abbrev pub packs_kept_back : ℕ
 packs_kept_back = 7
 

@@ -16,7 +16,8 @@ abbrev pub word_count : Form → ℕ → ℕ
 word_count Cooked blocks = slots_a_block * blocks
 word_count _ blocks = whole_packs blocks
 
--- word n of the program symbols: in a cooked stream, its symbols are next to each other; otherwise they are spread
+-- word n of the program symbols: in a cooked stream, its symbols are next to each other; otherwise, they are spread over
+-- eight slots
 abbrev pub form_word : Form → List ℕ → ℕ → List ℕ
 form_word Cooked symbols n = map (λ i. slice_index symbols (word_symbols * n + i)) (below word_symbols)
 form_word _ symbols n = word_of symbols n
@@ -35,8 +36,8 @@ bad_count found = count_by is_none found
 abbrev pub all_packs : Form → ℕ → List (List ℕ) → List (List ℕ)
 all_packs form blocks packs = packs ++ replicate (word_count form blocks - length packs) idle_pack
 
--- Each word of `symbols` differs in at most two symbols from the word of `others` with the same number. In a cooked stream,
--- `others` has further words after these. In each further word, at most two symbols are not 0.
+-- Each word of `symbols` differs in at most two symbols from the word of `others` with the same number. If the form is
+-- `Cooked`, `others` has further words after these. In each further word, at most two symbols are not 0.
 pub record IsDamaged (symbols : List ℕ) (form : Form) (others : List ℕ) : Type 0 where
   pub size : length others ≡ length symbols
   pub words : (n : ℕ) → n < whole_packs (length symbols / block_bytes)

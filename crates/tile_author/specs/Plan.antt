@@ -27,7 +27,7 @@ differences_from_first pixels = map (bit_xor (slice_index pixels 0)) pixels
 unfoldable pub basis : List ℕ → List ℕ
 basis pixels = basis_from [] (differences_from_first pixels)
 
--- the number of instructions that draw these pixels, or that combine them with the old pixels
+-- the number of instructions that a plan needs to draw these pixels, or to combine them with the old pixels
 unfoldable pub weight : List ℕ → ℕ
 weight pixels = max 1 (length (basis pixels))
 
@@ -49,7 +49,7 @@ combination (first ∷ rest) chosen =
 unfoldable pub member_bits : List ℕ → ℕ → List Bool
 member_bits pixels j = map (λ d. has_bit j (selection (basis pixels) d)) (differences_from_first pixels)
 
--- `member_bits` as twelve lines of six bits; the leftmost pixel is the highest bit
+-- the bits of `member_bits` as twelve numbers of six bits, one number for each line; the leftmost pixel is the highest bit
 unfoldable pub tile_lines : List ℕ → ℕ → List ℕ
 tile_lines pixels j = map number_of (parts tile_height tile_width (member_bits pixels j))
 
