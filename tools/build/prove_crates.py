@@ -35,9 +35,6 @@ LINES_A_SECOND, LEAST_SECONDS = 45, 10
 LEARNT_SECONDS = 60
 # The memory that a check needs.
 BYTES = 2_500_000_000
-# The maximum number of processors for one crate. Each loads the proofs of the crates below, so four take nearly twice the
-# processor time of two, and save a twelfth of the time.
-MOST_JOBS = 2
 
 
 def libraries(below: dict[str, list[str]], goals: list[str]) -> list[str]:
@@ -195,9 +192,9 @@ class Proving:
         return whole * self.pace()
 
     def jobs(self, ready: int) -> int:
-        """The number of processors for the next crate: those that no running or ready crate waits for, at most MOST_JOBS."""
+        """The number of processors for the next crate: those that no running or ready crate waits for."""
         free = self.lanes - sum(self.used.values())
-        return max(1, min(MOST_JOBS, free - (ready - 1)))
+        return max(1, free - (ready - 1))
 
     def prove(self, name: str, jobs: int) -> None:
         """Proves a crate with this number of processors and builds its library, over the proofs that earlier runs kept."""
