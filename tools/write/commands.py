@@ -78,7 +78,7 @@ def letters(formats: str) -> list[str]:
 def statuses(formats: str) -> list[str]:
     """The part on the exit statuses."""
     out = [".SH EXIT STATUS"]
-    for status, exit_number, line in table(formats, "| Status | Exit | Line |"):
+    for status, exit_number, line in table(formats, "| What happened | Exit status | Line on standard error |"):
         said = "nothing is written to standard error" if line == "none" else f"standard error has {roff(line)}"
         out += entry(exit_number, f"{roff(status)}; {said}.")
     return out
@@ -87,7 +87,7 @@ def statuses(formats: str) -> list[str]:
 def refusals(formats: str) -> list[str]:
     """The parts on the reasons of a refusal, and on those of a refused line of each text."""
     out = [".SH REFUSALS", "The reason after", ".BR refused :"]
-    for reason, comes in table(formats, "| Reason after `refused` | Comes if |"):
+    for reason, comes in table(formats, "| Reason after `refused` | The program prints it if |"):
         out += entry(reason, roff(comes) + ".")
     for kind, what in (("cue", "CUE SHEET"), ("script", "PICTURE SCRIPT")):
         out += [f".SH REFUSED LINES OF {what}", "The reason after", f'.BR "refused {kind} " LINE :']
@@ -107,7 +107,7 @@ def manual(formats: str, commands: list[Row]) -> str:
         out += entry(words, f"Reads {'nothing' if inputs == 'none' else roff(inputs)}. Writes {roff(output)}.")
     out += [*letters(formats), *statuses(formats), *refusals(formats)]
     out += [".SH NOTES", "These mistakes are easy to make and hard to see: the status is 0, or the message is easily misread."]
-    for seen, meaning, remedy in table(formats, "| You see | It is | What to do |"):
+    for seen, meaning, remedy in table(formats, "| You see | The reason | What to do |"):
         out += entry(seen, f"{roff(meaning)}. Remedy: {roff(remedy)}.")
     out += [".SH EXAMPLES"]
     for said, lines in examples(formats):
