@@ -125,7 +125,7 @@ fn bytes_at(stream: &[u8], at: usize) -> [u8; BLOCK_BYTES]
     block
 }
 
-/// A law: for any stream, the sums of its rows are the numbers that `check` reports.
+/// A law: for any stream, the sums of its rows are the numbers of words and Q frames that `check` reports.
 pub fn rows_add_up_to_check()
     ensures { (form : Form) (lead_in : ℕ) (bytes text : List ℕ) (bad : ℕ)
         → IsCheckListed form lead_in bytes text bad → AddUpTo (survey_rows form lead_in bytes) text bad }

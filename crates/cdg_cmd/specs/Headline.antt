@@ -19,13 +19,13 @@ use Rattle.cdg_cmd.specs.declared.status.Status.{Status}
 use Rattle.cdg_cmd.specs.declared.status.Status.TheVariants.{Done, Damaged, Usage, Refused, Late, ReadFault, WriteFault, NoMemory}
 use Rattle.rw_code.specs.Packs.{idle_pack}
 
--- The sheet and the script fit on the disc, except that a picture may be late.
+-- The sheet and the script fit on the disc. This does not say whether a picture is late.
 pub record HavePlace (disc : Disc) : Type 0 where
   pub pictures : HoldsPictures disc.sheet disc.script disc.audio
   pub room : HasRoom disc.sheet disc.lead_in
 
--- The stream of the planned changes was written; or nothing was written, and the status names the first late picture; or a
--- read or a write failed, or memory ran out.
+-- Every picture can be ready, and the stream of the planned changes was written. Or nothing was written, and the status
+-- names the first late picture. Or a read or a write failed, or memory ran out.
 abbrev pub WritesOrIsLate : Disc → Change Bytes → Status → Type 0
 WritesOrIsLate disc out Done = AreReady disc.script × PutsAuthored disc out
 WritesOrIsLate disc out (Late picture need free) =
