@@ -37,7 +37,7 @@ style = "night"
 # Seconds of silence between the tracks.
 gap = 2
 """
-NEW_TRACK ="""
+NEW_TRACK = """
 [[track]]
 lyrics = {lyrics}
 sound = {sound}
@@ -46,7 +46,7 @@ singer = {singer}
 # picture = "title.png"
 # isrc = "GBAAA2600001"
 """
-NEW_PAIR ="""
+NEW_PAIR = """
 [[track]]
 pair = {pair}
 title = {title}

@@ -272,7 +272,9 @@ def without_missing(song: Song, wishes: Wishes) -> list[str]:
             done = "a box replaces it" if has_boxes else "it is omitted"
             if len(missing) > 1:
                 done = "boxes replace them" if has_boxes else "they are omitted"
-            notes.append(f"{song.path}: {place}: no installed font has {letters}; {done} (to add a font, use --font FILE)")
+            notes.append(
+                f"{song.path}: {place}: no installed font has {letters}; {done} (to add a font, use --font FILE)"
+            )
         return spelled_with(text, font.of(voice), has_boxes)
 
     for line in song.lines:
