@@ -12,7 +12,7 @@ import tempfile
 from types import TracebackType
 from typing import Any, Iterable, Sequence, TextIO
 
-from . import heard, records
+from . import read_files, records
 from .beside import WaitingFile, forget, give_name, held_back, keep_folder, link_or_move, made_beside, new_mode
 from .failures import (
     Failure as Failure,
@@ -219,7 +219,7 @@ class Output:
             raise Refusal(self.name, "became something else meanwhile")
         assert self.waits is not None
         if self.kind.is_recorded:
-            with heard.paused():
+            with read_files.paused():
                 records.keep(self.target.path, self.waits)
         with writing(self.name):
             found = self.target.found
@@ -309,12 +309,12 @@ class Outputs:
                     failures.append(failure)
         if failures:
             raise Several(failures) if len(failures) > 1 else failures[0]
-        self.heard = heard.Heard()
+        self.read_files = read_files.ReadFiles()
 
     def _check_unread(self, output: Output) -> None:
         """Refuses an output that was read meanwhile."""
         target = output.target
-        if target.found is not None and (read := self.heard.files.get(target.identity())) is not None:
+        if target.found is not None and (read := self.read_files.files.get(target.identity())) is not None:
             raise _is_read(output, read)
 
     def _check_alone(self, output: Output, inputs: dict[tuple[object, ...], str]) -> None:
@@ -377,7 +377,7 @@ class Outputs:
                 self.made.append(folder)
 
     def __enter__(self) -> "Outputs":
-        self.heard = heard.begin()
+        self.read_files = read_files.start_recording()
         return self
 
     def __exit__(self, kind: type[BaseException] | None, error: BaseException | None, _: TracebackType | None) -> None:
@@ -386,7 +386,7 @@ class Outputs:
                 self._appear()
                 self.made.clear()
         finally:
-            heard.stop_hearing(self.heard)
+            read_files.stop_recording(self.read_files)
             self.drop()
             for folder in reversed(self.made):
                 with contextlib.suppress(OSError):

@@ -4,7 +4,7 @@ import os
 import stat
 import sys
 
-from . import heard
+from . import read_files
 from .failures import Failure, Name, Refusal, reading
 from .kinds import Kind
 from .records import is_own as is_own_output
@@ -59,7 +59,7 @@ class Target:
             return None
         if not mode & WRITABLE or not os.access(self.path, os.W_OK):
             return "is write-protected; --force replaces it"
-        with reading(self.name), heard.paused():
+        with reading(self.name), read_files.paused():
             is_own = not kind.is_recorded or not self.found.st_size or is_own_output(self.path)
             if is_own and kind.has(self.path):
                 return None

@@ -9,20 +9,20 @@ from typing import Any, Iterator
 Identity = tuple[object, ...]
 
 
-class Heard:
+class ReadFiles:
     """The identities of the regular files that were opened for reading since this object was made."""
 
     def __init__(self) -> None:
         self.files: dict[Identity, str] = {}
 
 
-_listening: list[Heard] = []
+_recordings: list[ReadFiles] = []
 _paused = 0
 
 
 def _opened(event: str, arguments: tuple[Any, ...]) -> None:
     """Python calls this before it opens a file, in its own code and in packages."""
-    if event != "open" or not _listening or _paused:
+    if event != "open" or not _recordings or _paused:
         return
     # No error here may prevent that a file is opened.
     with contextlib.suppress(Exception):
@@ -31,28 +31,28 @@ def _opened(event: str, arguments: tuple[Any, ...]) -> None:
             return
         found = os.stat(path)
         if stat.S_ISREG(found.st_mode):
-            for heard in _listening:
-                heard.files[found.st_dev, found.st_ino] = os.fsdecode(path)
+            for recording in _recordings:
+                recording.files[found.st_dev, found.st_ino] = os.fsdecode(path)
 
 
 _is_installed = False
 
 
-def begin() -> Heard:
-    """Listens from now on, until `end` is called."""
+def start_recording() -> ReadFiles:
+    """Records the files that are opened from now on, until `stop_recording` is called."""
     global _is_installed
     if not _is_installed:
         # A hook stays for the life of the process.
         sys.addaudithook(_opened)
         _is_installed = True
-    heard = Heard()
-    _listening.append(heard)
-    return heard
+    recording = ReadFiles()
+    _recordings.append(recording)
+    return recording
 
 
-def stop_hearing(heard: Heard) -> None:
+def stop_recording(recording: ReadFiles) -> None:
     with contextlib.suppress(ValueError):
-        _listening.remove(heard)
+        _recordings.remove(recording)
 
 
 @contextlib.contextmanager
