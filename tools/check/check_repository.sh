@@ -55,7 +55,9 @@ output=$(tools/write/test_wrapping.py 2>&1) || complain "tools/write/test_wrappi
 tools/check/check_edits.py || complain "an edit does not turn what it was written for"
 
 # The checker refuses the wrong bodies of slow crates, function by function, over the proofs of the gate or of `make`.
+LIMIT=3000
 try tools/check/try_wrong_bodies.py --by-function || complain "a wrong body is not refused"
+LIMIT=1200
 
 # The tables of numbers are those that are reckoned.
 try tests/peers/tables.py || complain "a table of numbers is not what tests/peers/tables.py reckons"
