@@ -68,7 +68,7 @@ ROWS = (
 # and clearing depend on the processor; these settings choose those that every processor has, so a count is the same
 # on every processor.
 ENVIRONMENT = {"PATH": "/usr/bin:/bin", "GLIBC_TUNABLES": "glibc.cpu.hwcaps=-AVX2,-AVX512F,-AVX512VL,-ERMS,-FSRM"}
-# The commands of which the plain program reads only the name and the last option.
+# For these commands, the plain program reads only the name and the last option.
 WITH_OPTION = ("screen", "state", "scratch", "text", "author", "press", "resume")
 
 

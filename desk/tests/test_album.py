@@ -137,7 +137,7 @@ class AlbumTest(SongsTest):
         packs, _ = packs_of_blocks(self.program(), RAW, 0)
         ends = [0] + [start + length for start, length in zip(self.starts(), LENGTHS)]
         for end, start in zip(ends, self.starts()):
-            # A pack is spread over eight slots, of which the first is seven slots before its last.
+            # A pack is spread over eight slots. The last slot is seven slots after the first.
             self.assertFalse(any(packs[PACK * max(0, 4 * end - 7) : PACK * 4 * start]))
             presets = packs[PACK * 4 * start :][: 24 * 8]
             self.assertEqual([presets[at + 1] for at in range(0, len(presets), PACK) if presets[at]][:4], PRESETS)

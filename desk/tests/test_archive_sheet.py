@@ -174,7 +174,7 @@ class SheetOfDumpsTest(FolderTest):
             self.assertEqual(desk("sheet", path, "--toc", "--session", 3).status, 3)
 
     def test_two_sessions_without_a_word_of_the_gap(self) -> None:
-        """Only a sheet beside the dump says where a session ends: the usual gap is assumed, and a note says so."""
+        """Only a sheet next to the dump states the end of a session. The desk assumes the usual gap, and reports this."""
         first, second = self.two_sessions()
         whole = known.two_sessions(first, second)
         gap = first.end - 150

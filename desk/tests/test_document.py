@@ -19,7 +19,7 @@ from ribjasper.songs.songs import Line, Song, Syllable
 
 needs_mido = needs("mido", "python3-mido")
 SONGS = 40
-# Texts of words, some of which look like parts of a format.
+# Texts of words. Some of the words look like parts of a format.
 WORDS = ["river", "under ", "M: ", "D:", "F: me", "a]b", "<", "100%", "it's", "\u6b4c", "e\u0301", "[x:y]", "v2: ", "...",
          "<00:01.00>", "~", "-", "\u201cyes\u201d", "{b}", "-->", "\\N", "#", "&", "night,"]  # fmt: skip
 PLAIN = ["river", "under", "mor", "ning", "light", "it's", "\u6b4c", "e\u0301a", "\u201cyes\u201d", "100%", "night,"]

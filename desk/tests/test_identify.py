@@ -72,7 +72,7 @@ class IdentifyTest(FolderTest):
         self.assertEqual(self.identified(stream)[0], "raw")
 
     def test_long_dump(self) -> None:
-        """A dump of which only windows are tried: its beginning and its end are damaged."""
+        """The beginning and the end of this dump are damaged, and only samples of it are read."""
         clean = blocks(hello()[BLOCK * LEAD_IN :])
         stream = b"".join([bytes(BLOCK * 4000), *clean * 3, bytes(BLOCK * 4000)])
         self.assertEqual(self.identified(stream)[0], "raw")

@@ -177,7 +177,7 @@ class ServerTest(StudioTest):
         self.assertEqual(self.names(), {"a.lrc", "a.wav"})
 
     def test_a_fault_is_answered(self) -> None:
-        """The page is told about a bug of the desk, and the server continues."""
+        """The server reports a bug of the desk to the page, and continues."""
         studio = self.studio(self.song())
         with self.served(studio) as server, mock.patch.object(studio, "undo", side_effect=ZeroDivisionError("x")):
             found = self.ask(server, "undo", {})

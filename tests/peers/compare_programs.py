@@ -484,7 +484,7 @@ class Maker:
         return time_of(inputs.at) if letter == "T" else inputs.form
 
     def mangled(self, words: list[str | bytes]) -> list[str | bytes]:
-        """Words of which one is removed, doubled, moved, changed or added."""
+        """The words, after one of them was removed, doubled, moved or changed, or after one was added."""
         made = list(words)
         place, other = self.rng.randrange(len(made)), self.rng.randrange(len(made))
         how = self.rng.randrange(7)

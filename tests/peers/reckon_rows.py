@@ -15,7 +15,7 @@ from subcode import PLACES, check, words_of
 
 
 def solve(rows: list[list[int]]) -> list[int]:
-    """The solution of linear equations, each of which is a list of coefficients and its right side."""
+    """The solution of linear equations. Each equation is a list of its coefficients, followed by its right side."""
     size = len(rows)
     for column in range(size):
         pivot = next(k for k in range(column, size) if rows[k][column])

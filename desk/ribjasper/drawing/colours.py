@@ -93,7 +93,7 @@ def spread_colours(weights: Counter[Colour], most: int) -> list[Colour]:
 
 
 def farthest(weights: Counter[Colour], few: list[Colour], count: int) -> list[Colour]:
-    """More colours, each of which is replaced worst by all earlier ones, weighted by its pixels."""
+    """At most `count` more colours. Each has the greatest error, weighted by its pixels, if earlier colours replace it."""
     error = {colour: min(colour.far_from(one) for one in few) for colour in weights}
     more: list[Colour] = []
     for _ in range(count):
