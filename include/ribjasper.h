@@ -54,8 +54,8 @@ extern "C" {
 #endif
 
 #define RIBJASPER_VERSION_MAJOR 1
-#define RIBJASPER_VERSION_MINOR 12
-#define RIBJASPER_VERSION_PATCH 1
+#define RIBJASPER_VERSION_MINOR 13
+#define RIBJASPER_VERSION_PATCH 0
 
 /* This is the version of this header as one number. */
 #define RIBJASPER_VERSION (65536 * RIBJASPER_VERSION_MAJOR + 256 * RIBJASPER_VERSION_MINOR + RIBJASPER_VERSION_PATCH)
@@ -861,14 +861,15 @@ typedef struct ribjasper_sheet_row {
 
 /* This struct is the result of reading a cue sheet. If the sheet is refused, all fields except `line` and `why` are 0.
    */
-typedef struct ribjasper_sheet_told {
+typedef struct ribjasper_sheet_result {
     uint32_t rows;         /* index lines, at most 9,900 */
     uint32_t tracks;       /* tracks, 1 to 99 */
     uint32_t line;         /* the first refused line, from 1 (the end counts as the line after the last), or 0 */
     uint32_t why;          /* the reason, a number listed at RIBJASPER_SHEET_REFUSED, or 0 */
     uint8_t has_catalogue; /* 1 if the sheet has a catalogue number, or 0 */
     uint8_t catalogue[13]; /* the digits of this number in ASCII, or zeros */
-} ribjasper_sheet_told;
+} ribjasper_sheet_result;
+#define ribjasper_sheet_told ribjasper_sheet_result /* the name before version 1.13 */
 
 /* Reads a cue sheet, and writes one row for each index line, in order.
      sheet, length: the text of the sheet, and its length in bytes
@@ -880,7 +881,7 @@ typedef struct ribjasper_sheet_told {
    RIBJASPER_NO_MEMORY: malloc failed; `result` is not written. The last answer comes only if no line has an error. This
    call allocates memory. */
 RIBJASPER_NODISCARD int32_t ribjasper_sheet(const uint8_t *sheet, size_t length, ribjasper_sheet_row *rows, size_t room,
-                                            ribjasper_sheet_told *result);
+                                            ribjasper_sheet_result *result);
 
 /* These are the kinds of texts of a cue sheet. */
 #define RIBJASPER_TITLE 0

@@ -92,14 +92,14 @@ class AudioTest(FolderTest):
             path = self.sound(wav(size=size), f"{size}.wav")
             self.assertEqual(self.samples(path), SAMPLES)
 
-    def test_cut_files_are_told(self) -> None:
+    def test_cut_files_are_reported(self) -> None:
         whole = wav(bytes(4 * 44_100))
         errors = self.refused(self.sound(whole[: len(whole) // 2]))
         self.assertIn("is cut off: 0.50 of 1.00 seconds are there", errors)
         self.assertIn("ffmpeg -i ", errors)
         self.assertIn("ends before its samples begin", self.refused(self.sound(whole[:30], "b.wav")))
 
-    def test_without_ffmpeg_the_line_is_told(self) -> None:
+    def test_without_ffmpeg_the_line_is_reported(self) -> None:
         for path, what in (
             (write_wav(self.folder / "b.wav", 100, rate=48_000), "has 48000 Hz, 2 channels, 16 bits"),
             (write_wav(self.folder / "c.wav", 100, channels=1), "has 44100 Hz, 1 channel, 16 bits"),

@@ -417,7 +417,7 @@ class ExportTest(FolderTest):
             "#TITLE:T\n#ARTIST:P\n#BPM:1500\n#GAP:0\n: 6100 25 0 Hel\n: 6125 25 0 lo \n: 6200 50 0 you\nE\n",
         )
 
-    def test_letters_that_a_format_cannot_hold_are_told(self) -> None:
+    def test_letters_that_a_format_cannot_hold_are_reported(self) -> None:
         for ending, text, read in (
             (".srt", "a <b>", "a \u2039b\u203a"),
             (".ass", "{a}\\N", "(a)/N"),

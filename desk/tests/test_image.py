@@ -145,7 +145,7 @@ class ImageTest(FolderTest):
         self.assertNotIn("pause", ran.errors)
         self.assertEqual(screen(image, 535 - PAUSE, "--form", "sector", lead_in=0), third)
 
-    def test_texts_of_another_sheet_are_told(self) -> None:
+    def test_texts_of_another_sheet_are_reported(self) -> None:
         self.assertNotIn("its texts are not those", self.image().errors)
         self.sheet = self.write("b.cue", SHEET.replace("All the Gaps", "Other Gaps"))
         errors = self.image().errors

@@ -14,7 +14,7 @@ NAMES = {
     "PlayerHandle": "ribjasper_player",
     "SurveyRow": "ribjasper_row",
     "ListedTexts": "ribjasper_listed",
-    "SheetResult": "ribjasper_sheet_told",
+    "SheetResult": "ribjasper_sheet_result",
 }
 
 Layout = dict[str, tuple[int, int]]

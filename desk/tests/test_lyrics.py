@@ -237,7 +237,7 @@ class LyricsTest(ScriptTest):
             self.assertAlmostEqual(following.start - row.start, 6 * (len(row.text()) + 1) / letters, delta=0.15)
 
     @needs_program
-    def test_lines_of_which_the_beginning_is_told(self) -> None:
+    def test_lines_of_which_the_beginning_is_reported(self) -> None:
         song = self.write(
             "a.lrc",
             "[00:06.00]First line\n[00:09.00]Second line, which is rather long for one row\n"
@@ -285,7 +285,7 @@ class LyricsTest(ScriptTest):
         after = screen(stream, last.block + 2)
         self.assertEqual({after.at(*pixel) for pixel in full}, {rgb(read_style("night").voices[0].sung)})
 
-    def test_a_line_that_cannot_be_drawn_in_time_is_told(self) -> None:
+    def test_a_line_that_cannot_be_drawn_in_time_is_reported(self) -> None:
         ran, script, _ = self.made(self.write("a.lrc", "[00:00.05]Too early\n[00:05.00]In time\n"))
         self.assertIn("line 1 is drawn", ran.errors)
         self.assertNotIn("line 2", ran.errors)
@@ -605,7 +605,7 @@ class ReadableTest(ScriptTest):
             found = [counts[PAUSE + round(75 * (start - before))][place] for before in (2.5, 1.5, 0.5, -0.1)]
             self.assertEqual(found, [3, 2, 1, 0])
 
-    def test_a_long_rest_is_told(self) -> None:
+    def test_a_long_rest_is_reported(self) -> None:
         text = "[00:08.00]<00:08.00>La <00:09.00>la <00:10.00>\n[01:15.00]<01:15.00>So <01:15.50>on <01:16.00>\n"
         _, script, maker = self.made(self.write("a.lrc", text))
         rest = next(page.placed[-1] for page in maker.pages if not page.group.is_sung)
@@ -724,7 +724,7 @@ class ReadableTest(ScriptTest):
         ran = desk("lyrics", song, "-o", self.folder / "b.script", "--font", GOTHIC)
         self.assertEqual(ran.status, 0)
 
-    def test_all_lines_beyond_the_end_are_told(self) -> None:
+    def test_all_lines_beyond_the_end_are_reported(self) -> None:
         audio = write_wav(self.folder / "a.wav", 44_100 * 9)
         text = "[00:06.00]La\n[0:10.50]Lo\n[00:12.00]Lu\n[00:13.00]\n"
         ran = desk("lyrics", self.write("a.lrc", text), "--audio", audio, "-o", self.folder / "a.script")

@@ -70,7 +70,7 @@ class PlanTest(FolderTest):
         self.assertEqual((ran.status, "none.cue: no such file" in ran.errors), (3, True), ran.errors)
         self.assertEqual(desk("plan", sheet, script, "--length", "00:22:75").status, 2)
 
-    def test_words_for_author_are_told(self) -> None:
+    def test_words_for_author_are_reported(self) -> None:
         ran = desk("plan", *HELLO, "--length", "00:22:00")
         self.assertIn("ribjasper author --lead-in 15 --length 00:22:00 -- ", ran.errors)
 

@@ -113,7 +113,7 @@ class LrcTest(SongTest):
         self.assertEqual(words(self.song("[offset:+500]\n[00:05.00]La\n")), [[("La", 4.5)]])
         self.assertEqual(words(self.song("[offset:-500]\n[00:05.00]La\n")), [[("La", 5.5)]])
 
-    def test_what_has_no_time_is_told(self) -> None:
+    def test_what_has_no_time_is_reported(self) -> None:
         song = self.song("A title\n[00:05.00]La\n")
         self.assertEqual(len(song.notes), 1)
         self.assertIn("line 1 has no time", song.notes[0])

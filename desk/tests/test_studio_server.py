@@ -464,7 +464,7 @@ class PicturesTest(StudioTest):
     @needs_program
     @needs_pillow
     @needs_font
-    def test_late_lines_are_told(self) -> None:
+    def test_late_lines_are_reported(self) -> None:
         studio = self.studio(self.song("a.lrc", "[00:00.05]Too early for this\n[00:08.00]In time\n"))
         made = studio.ready()
         self.assertEqual([(one.line, one.what) for one in made.late], [(1, "drawn")])

@@ -60,7 +60,7 @@ class TextPacksTest(FolderTest):
         self.assertEqual([row[3] for row in rows if row[:2] == ("Japanese", "title")], ["日本", "一", "二", "三"])
         self.assertEqual([row[3] for row in rows if row[:2] == ("German", "title")], ["Kaffee", "Eins", "Zwei", "Drei"])
 
-    def test_that_there_is_more_is_told(self) -> None:
+    def test_that_there_is_more_is_reported(self) -> None:
         self.rows(packs())
         self.assertIn("which --all prints: 3 languages, closed, disc-id, genre, toc, ASCII, MS-JIS", self.ran.errors)
 

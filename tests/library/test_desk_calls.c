@@ -51,14 +51,14 @@ static void blocks_of_zeros(void)
 {
     static uint8_t stream[BYTES + 96];
     ribjasper_row rows[BLOCKS + 1];
-    ribjasper_surveyed told = { 7, 7 };
-    CHECK(ribjasper_survey(stream, 0, RIBJASPER_RAW, 0, rows, 0, &told) == RIBJASPER_CONVERTED);
-    CHECK(told.blocks == 0 && told.rest == 0);
+    ribjasper_surveyed result = { 7, 7 };
+    CHECK(ribjasper_survey(stream, 0, RIBJASPER_RAW, 0, rows, 0, &result) == RIBJASPER_CONVERTED);
+    CHECK(result.blocks == 0 && result.rest == 0);
     /* Word 4 b - 7 is the first that ends with block b; a torn stream has a rest. */
     for (size_t rest = 0; rest < 96; rest++) {
         memset(rows, 9, sizeof rows);
-        CHECK(ribjasper_survey(stream, BYTES + rest, RIBJASPER_RAW, 0, rows, BLOCKS + 1, &told) == RIBJASPER_CONVERTED);
-        CHECK(told.blocks == BLOCKS && told.rest == rest);
+        CHECK(ribjasper_survey(stream, BYTES + rest, RIBJASPER_RAW, 0, rows, BLOCKS + 1, &result) == RIBJASPER_CONVERTED);
+        CHECK(result.blocks == BLOCKS && result.rest == rest);
         CHECK(counts_are(rows, 0, 0, 0, 0) && counts_are(rows + 1, 1, 0, 0, 0));
         CHECK(counts_are(rows + 2, 4, 0, 0, 0) && counts_are(rows + 3, 4, 0, 0, 0));
         for (int b = 0; b < BLOCKS; b++)
@@ -66,14 +66,14 @@ static void blocks_of_zeros(void)
         CHECK(all_are(rows + BLOCKS, sizeof *rows, 9));
     }
     /* Blocks of the lead-in end no word. */
-    CHECK(ribjasper_survey(stream, BYTES, RIBJASPER_RAW, 2, rows, BLOCKS, &told) == RIBJASPER_CONVERTED);
+    CHECK(ribjasper_survey(stream, BYTES, RIBJASPER_RAW, 2, rows, BLOCKS, &result) == RIBJASPER_CONVERTED);
     CHECK(counts_are(rows, 0, 0, 0, 0) && counts_are(rows + 1, 0, 0, 0, 0) && counts_are(rows + 2, 0, 0, 0, 0));
     CHECK(counts_are(rows + 3, 1, 0, 0, 0));
-    CHECK(ribjasper_survey(stream, BYTES, RIBJASPER_RAW, 450000, rows, BLOCKS, &told) == RIBJASPER_CONVERTED);
+    CHECK(ribjasper_survey(stream, BYTES, RIBJASPER_RAW, 450000, rows, BLOCKS, &result) == RIBJASPER_CONVERTED);
     CHECK(counts_are(rows + 3, 0, 0, 0, 0));
     /* Packs have no frames. */
     stream[0] = 0x80;
-    CHECK(ribjasper_survey(stream, BYTES, RIBJASPER_PACKS, 1, rows, BLOCKS, &told) == RIBJASPER_CONVERTED);
+    CHECK(ribjasper_survey(stream, BYTES, RIBJASPER_PACKS, 1, rows, BLOCKS, &result) == RIBJASPER_CONVERTED);
     CHECK(counts_are(rows, 0, 0, 0, 0) && counts_are(rows + 1, 4, 0, 0, 0) && counts_are(rows + 3, 4, 0, 0, 0));
     CHECK(frame_is(rows, RIBJASPER_Q_NONE, 0, 0, RIBJASPER_NO_TIME) && rows[0].empty == 0 && rows[1].empty == 1);
 }
@@ -83,21 +83,21 @@ static void refused_surveys(void)
     static uint8_t stream[BYTES];
     const size_t longest = 96 * (size_t)1000000;
     ribjasper_row rows[BLOCKS];
-    ribjasper_surveyed told;
+    ribjasper_surveyed result;
     uint8_t *zeros = (uint8_t *)calloc(longest + 96, 1);
     memset(rows, 9, sizeof rows);
-    memset(&told, 9, sizeof told);
-    CHECK(ribjasper_survey(stream, BYTES, 3, 0, rows, BLOCKS, &told) == RIBJASPER_USAGE);
-    CHECK(ribjasper_survey(stream, BYTES, 0xffffffff, 0, rows, BLOCKS, &told) == RIBJASPER_USAGE);
-    CHECK(ribjasper_survey(stream, BYTES, RIBJASPER_RAW, 450001, rows, BLOCKS, &told) == RIBJASPER_USAGE);
+    memset(&result, 9, sizeof result);
+    CHECK(ribjasper_survey(stream, BYTES, 3, 0, rows, BLOCKS, &result) == RIBJASPER_USAGE);
+    CHECK(ribjasper_survey(stream, BYTES, 0xffffffff, 0, rows, BLOCKS, &result) == RIBJASPER_USAGE);
+    CHECK(ribjasper_survey(stream, BYTES, RIBJASPER_RAW, 450001, rows, BLOCKS, &result) == RIBJASPER_USAGE);
     for (size_t room = 0; room < BLOCKS; room++)
-        CHECK(ribjasper_survey(stream, BYTES, RIBJASPER_RAW, 0, rows, room, &told) == RIBJASPER_NO_ROOM);
+        CHECK(ribjasper_survey(stream, BYTES, RIBJASPER_RAW, 0, rows, room, &result) == RIBJASPER_NO_ROOM);
     if (zeros) {
-        CHECK(ribjasper_survey(zeros, longest + 96, RIBJASPER_RAW, 0, rows, BLOCKS, &told) == RIBJASPER_TORN);
-        CHECK(ribjasper_survey(zeros, longest + 95, RIBJASPER_RAW, 0, rows, BLOCKS, &told) == RIBJASPER_NO_ROOM);
+        CHECK(ribjasper_survey(zeros, longest + 96, RIBJASPER_RAW, 0, rows, BLOCKS, &result) == RIBJASPER_TORN);
+        CHECK(ribjasper_survey(zeros, longest + 95, RIBJASPER_RAW, 0, rows, BLOCKS, &result) == RIBJASPER_NO_ROOM);
     }
     free(zeros);
-    CHECK(all_are(rows, sizeof rows, 9) && all_are(&told, sizeof told, 9));
+    CHECK(all_are(rows, sizeof rows, 9) && all_are(&result, sizeof result, 9));
 }
 
 /* A word of the program with some wrong symbols, in each form that is interleaved. */
@@ -109,7 +109,7 @@ static void words_and_frames(void)
     static uint8_t stream[BYTES], sectors[2448 * BLOCKS];
     ribjasper_q_frame frame;
     ribjasper_row rows[BLOCKS], again[BLOCKS];
-    ribjasper_surveyed told;
+    ribjasper_surveyed result;
     uint8_t bytes[12], word[24];
     memset(&frame, 0, sizeof frame);
     frame.track = 42;
@@ -127,7 +127,7 @@ static void words_and_frames(void)
         if (wrong > 0)
             word[6 * wrong] ^= 1;
         put_word(stream, 1, word);
-        CHECK(ribjasper_survey(stream, BYTES, RIBJASPER_RAW, 0, rows, BLOCKS, &told) == RIBJASPER_CONVERTED);
+        CHECK(ribjasper_survey(stream, BYTES, RIBJASPER_RAW, 0, rows, BLOCKS, &result) == RIBJASPER_CONVERTED);
         /* Word 1 ends with block 2, together with three idle words. */
         CHECK(counts_are(rows + 2, wrong == 0 ? 4 : 3, wrong == 1, wrong == 2, wrong == 3));
         CHECK(counts_are(rows, 0, 0, 0, 0) && counts_are(rows + 1, 1, 0, 0, 0) && counts_are(rows + 3, 4, 0, 0, 0));
@@ -140,8 +140,8 @@ static void words_and_frames(void)
             memset(sectors + 2448 * b, 0x5a, 2352);
             memcpy(sectors + 2448 * b + 2352, stream + 96 * b, 96);
         }
-        CHECK(ribjasper_survey(sectors, sizeof sectors, RIBJASPER_SECTORS, 0, again, BLOCKS, &told) == RIBJASPER_CONVERTED);
-        CHECK(told.blocks == BLOCKS && told.rest == 0 && memcmp(rows, again, sizeof rows) == 0);
+        CHECK(ribjasper_survey(sectors, sizeof sectors, RIBJASPER_SECTORS, 0, again, BLOCKS, &result) == RIBJASPER_CONVERTED);
+        CHECK(result.blocks == BLOCKS && result.rest == 0 && memcmp(rows, again, sizeof rows) == 0);
     }
 }
 
@@ -190,14 +190,14 @@ static void make_lead_in(uint8_t block[96], uint8_t packs[4][18])
 static void refuses_texts(const uint8_t stream[288], int32_t why, uint32_t seq, uint32_t byte)
 {
     uint8_t out[200];
-    ribjasper_listed told = { 9, 9, 9 };
+    ribjasper_listed result = { 9, 9, 9 };
     const long before = requests;
     memset(out, 9, sizeof out);
     refused = requests;
-    CHECK(ribjasper_texts(stream, 288, RIBJASPER_RAW, 1, out, sizeof out, &told) == why);
+    CHECK(ribjasper_texts(stream, 288, RIBJASPER_RAW, 1, out, sizeof out, &result) == why);
     refused = -1;
     CHECK(requests == before && all_are(out, sizeof out, 9));
-    CHECK(told.bytes == 0 && told.seq == seq && told.byte == byte);
+    CHECK(result.bytes == 0 && result.seq == seq && result.byte == byte);
 }
 
 static void lead_ins(void)
@@ -207,41 +207,41 @@ static void lead_ins(void)
     const size_t size = sizeof lines - 1;
     static uint8_t stream[96 * 3], sector[2448];
     uint8_t packs[4][18], read[72], out[200], torn[18];
-    ribjasper_listed told = { 9, 9, 9 };
-    CHECK(ribjasper_texts(stream, 192, RIBJASPER_RAW, 1, out, sizeof none - 1, &told) == RIBJASPER_CONVERTED);
-    CHECK(told.bytes == sizeof none - 1 && told.seq == 0 && told.byte == 0 && memcmp(out, none, sizeof none - 1) == 0);
+    ribjasper_listed result = { 9, 9, 9 };
+    CHECK(ribjasper_texts(stream, 192, RIBJASPER_RAW, 1, out, sizeof none - 1, &result) == RIBJASPER_CONVERTED);
+    CHECK(result.bytes == sizeof none - 1 && result.seq == 0 && result.byte == 0 && memcmp(out, none, sizeof none - 1) == 0);
     memset(stream, 0xc0, 96);
     make_lead_in(stream, packs);
     ribjasper_block_text_packs(stream, read);
     CHECK(memcmp(read, packs, 72) == 0);
     memset(out, 9, sizeof out);
-    CHECK(ribjasper_texts(stream, sizeof stream, RIBJASPER_RAW, 1, out, sizeof out, &told) == RIBJASPER_CONVERTED);
-    CHECK(told.bytes == size && memcmp(out, lines, size) == 0 && all_are(out + size, sizeof out - size, 9));
+    CHECK(ribjasper_texts(stream, sizeof stream, RIBJASPER_RAW, 1, out, sizeof out, &result) == RIBJASPER_CONVERTED);
+    CHECK(result.bytes == size && memcmp(out, lines, size) == 0 && all_are(out + size, sizeof out - size, 9));
     memcpy(sector + 2352, stream, 96);
-    CHECK(ribjasper_texts(sector, 2448, RIBJASPER_SECTORS, 7, out, size, &told) == RIBJASPER_CONVERTED && told.bytes == size);
+    CHECK(ribjasper_texts(sector, 2448, RIBJASPER_SECTORS, 7, out, size, &result) == RIBJASPER_CONVERTED && result.bytes == size);
 
     /* A refused call writes no line, and only a fault of the texts. */
     memset(out, 9, sizeof out);
-    memset(&told, 9, sizeof told);
-    CHECK(ribjasper_texts(stream, 288, RIBJASPER_PACKS, 1, out, sizeof out, &told) == RIBJASPER_USAGE);
-    CHECK(ribjasper_texts(stream, 288, 3, 1, out, sizeof out, &told) == RIBJASPER_USAGE);
-    CHECK(ribjasper_texts(stream, 288, RIBJASPER_RAW, 450001, out, sizeof out, &told) == RIBJASPER_USAGE);
+    memset(&result, 9, sizeof result);
+    CHECK(ribjasper_texts(stream, 288, RIBJASPER_PACKS, 1, out, sizeof out, &result) == RIBJASPER_USAGE);
+    CHECK(ribjasper_texts(stream, 288, 3, 1, out, sizeof out, &result) == RIBJASPER_USAGE);
+    CHECK(ribjasper_texts(stream, 288, RIBJASPER_RAW, 450001, out, sizeof out, &result) == RIBJASPER_USAGE);
     for (size_t length = 193; length < 288; length++)
-        CHECK(ribjasper_texts(stream, length, RIBJASPER_RAW, 1, out, sizeof out, &told) == RIBJASPER_TORN);
+        CHECK(ribjasper_texts(stream, length, RIBJASPER_RAW, 1, out, sizeof out, &result) == RIBJASPER_TORN);
     for (size_t room = 0; room < size; room++)
-        CHECK(ribjasper_texts(stream, 288, RIBJASPER_RAW, 1, out, room, &told) == RIBJASPER_NO_ROOM);
-    CHECK(all_are(&told, sizeof told, 9));
+        CHECK(ribjasper_texts(stream, 288, RIBJASPER_RAW, 1, out, room, &result) == RIBJASPER_NO_ROOM);
+    CHECK(all_are(&result, sizeof result, 9));
     for (refused = 0; refused < 1000; refused++) {
         const long before = held;
         int32_t answer;
         requests = 0;
-        answer = ribjasper_texts(stream, 288, RIBJASPER_RAW, 1, out, 0, &told);
+        answer = ribjasper_texts(stream, 288, RIBJASPER_RAW, 1, out, 0, &result);
         CHECK(held == before);
         if (answer == RIBJASPER_NO_ROOM)
             break;
         CHECK(answer == RIBJASPER_NO_MEMORY);
     }
-    CHECK(refused > 2 && refused < 1000 && all_are(out, sizeof out, 9) && all_are(&told, sizeof told, 9));
+    CHECK(refused > 2 && refused < 1000 && all_are(out, sizeof out, 9) && all_are(&result, sizeof result, 9));
     refused = -1;
 
     memcpy(torn, packs[0], 18);
@@ -267,7 +267,7 @@ static void longest_texts(void)
     static const char counts[] = "packs good 256 bad 0 other 0\n";
     static uint8_t stream[96 * PACKS / 4] = { 0 }, text[12 * PACKS] = { 0 };
     static uint8_t out[RIBJASPER_MOST_TEXTS] = { 0 }, lines[RIBJASPER_MOST_TEXTS] = { 0 };
-    ribjasper_listed told = { 9, 9, 9 };
+    ribjasper_listed result = { 9, 9, 9 };
     size_t size = 0;
     memset(text, 0x81, STRING);
     for (size_t track = 1; track <= 99; track++)
@@ -292,9 +292,9 @@ static void longest_texts(void)
     }
     memcpy(lines + size, counts, sizeof counts - 1);
     size += sizeof counts - 1;
-    CHECK(ribjasper_texts(stream, sizeof stream, RIBJASPER_RAW, PACKS / 4, out, size - 1, &told) == RIBJASPER_NO_ROOM);
-    CHECK(ribjasper_texts(stream, sizeof stream, RIBJASPER_RAW, PACKS / 4, out, sizeof out, &told) == RIBJASPER_CONVERTED);
-    CHECK(told.bytes == size && memcmp(out, lines, size) == 0 && all_are(out + size, sizeof out - size, 0));
+    CHECK(ribjasper_texts(stream, sizeof stream, RIBJASPER_RAW, PACKS / 4, out, size - 1, &result) == RIBJASPER_NO_ROOM);
+    CHECK(ribjasper_texts(stream, sizeof stream, RIBJASPER_RAW, PACKS / 4, out, sizeof out, &result) == RIBJASPER_CONVERTED);
+    CHECK(result.bytes == size && memcmp(out, lines, size) == 0 && all_are(out + size, sizeof out - size, 0));
 }
 
 /* All bytes of a file. */
@@ -386,13 +386,13 @@ static void as_the_program_says(const char *stream_name, uint32_t lead_in, const
     uint8_t *wanted = read_file(check_name, &check_length), *text = read_file(text_name, &text_length);
     ribjasper_row *rows = (ribjasper_row *)malloc((length / 96 + 1) * sizeof *rows);
     uint8_t *out = (uint8_t *)malloc(text_length + 1);
-    ribjasper_surveyed told = { 0, 0 };
+    ribjasper_surveyed result = { 0, 0 };
     ribjasper_listed listed = { 0, 0, 0 };
     unsigned long sums[6] = { 0, 0, 0, 0, 0, 0 };
     char lines[200];
     const char *at;
-    CHECK(ribjasper_survey(stream, length, RIBJASPER_RAW, lead_in, rows, length / 96, &told) == RIBJASPER_CONVERTED);
-    for (uint32_t b = 0; b < told.blocks; b++) {
+    CHECK(ribjasper_survey(stream, length, RIBJASPER_RAW, lead_in, rows, length / 96, &result) == RIBJASPER_CONVERTED);
+    for (uint32_t b = 0; b < result.blocks; b++) {
         sums[0] += rows[b].clean;
         sums[1] += rows[b].one;
         sums[2] += rows[b].two;
@@ -403,7 +403,7 @@ static void as_the_program_says(const char *stream_name, uint32_t lead_in, const
     wanted[check_length] = 0;
     sprintf(lines, "clean %lu\none %lu\ntwo %lu\nbad %lu\n", sums[0], sums[1], sums[2], sums[3]);
     at = strstr((const char *)wanted, lines);
-    CHECK(told.blocks > 0 && at != NULL);
+    CHECK(result.blocks > 0 && at != NULL);
     sprintf(lines, "q-good %lu\nq-bad %lu\n", sums[4], sums[5]);
     CHECK(at != NULL && strstr(at, lines) != NULL);
     CHECK(ribjasper_texts(stream, length, RIBJASPER_RAW, lead_in, out, text_length, &listed) == RIBJASPER_CONVERTED);

@@ -28,7 +28,7 @@ static void texts(size_t sheet_size, size_t script_size)
     size_t n;
     int32_t answer;
     ribjasper_planned planned;
-    ribjasper_sheet_told told;
+    ribjasper_sheet_result result;
     uint32_t bytes;
     for (n = 0; n < script_size; n++) {
         uint8_t kept = script[n];
@@ -44,7 +44,7 @@ static void texts(size_t sheet_size, size_t script_size)
     }
     for (n = 0; n < sheet_size; n++) {
         uint8_t kept = sheet[n];
-        answer = ribjasper_sheet(sheet, n, sheet_rows, 64, &told);
+        answer = ribjasper_sheet(sheet, n, sheet_rows, 64, &result);
         CHECK(answer != RIBJASPER_NO_MEMORY && held == 0);
         refusals += answer == RIBJASPER_TORN;
         sheet[n] ^= 0x15;

@@ -85,12 +85,13 @@ LIES(ribjasper_sheet_row, control, 14);
 LIES(ribjasper_sheet_row, has_isrc, 15);
 LIES(ribjasper_sheet_row, isrc, 16);
 
-HOLDS(sheet_told, sizeof(ribjasper_sheet_told) == 32);
-LIES(ribjasper_sheet_told, tracks, 4);
-LIES(ribjasper_sheet_told, line, 8);
-LIES(ribjasper_sheet_told, why, 12);
-LIES(ribjasper_sheet_told, has_catalogue, 16);
-LIES(ribjasper_sheet_told, catalogue, 17);
+HOLDS(sheet_result, sizeof(ribjasper_sheet_result) == 32);
+HOLDS(sheet_told, sizeof(struct ribjasper_sheet_told) == 32);
+LIES(ribjasper_sheet_result, tracks, 4);
+LIES(ribjasper_sheet_result, line, 8);
+LIES(ribjasper_sheet_result, why, 12);
+LIES(ribjasper_sheet_result, has_catalogue, 16);
+LIES(ribjasper_sheet_result, catalogue, 17);
 
 HOLDS(planned, sizeof(ribjasper_planned) == 24);
 LIES(ribjasper_planned, blocks, 4);
@@ -124,19 +125,19 @@ static int answers(const ribjasper_player *player, ribjasper_player *other, int3
     static uint8_t pixels[RIBJASPER_PIXELS], picture[RIBJASPER_PICTURE], file[RIBJASPER_CHECKPOINT];
     uint16_t colours[RIBJASPER_COLOURS];
     uint8_t levels[RIBJASPER_COLOURS], number, across;
-    int told = 0;
-    told += ribjasper_player_pixel(player, 0, 0, &number) == answer;
-    told += ribjasper_player_screen(player, pixels) == answer;
-    told += ribjasper_player_rect(player, 0, 0, 1, 1, pixels, sizeof pixels, 1) == answer;
-    told += ribjasper_player_picture(player, picture) == answer;
-    told += ribjasper_player_colour(player, 0, colours) == answer;
-    told += ribjasper_player_colours(player, colours) == answer;
-    told += ribjasper_player_levels(player, levels) == answer;
-    told += ribjasper_player_border(player, &number) == answer;
-    told += ribjasper_player_offsets(player, &across, &number) == answer;
-    told += ribjasper_player_save(player, file) == answer;
-    told += ribjasper_player_copy(player, other) == answer;
-    return told;
+    int count = 0;
+    count += ribjasper_player_pixel(player, 0, 0, &number) == answer;
+    count += ribjasper_player_screen(player, pixels) == answer;
+    count += ribjasper_player_rect(player, 0, 0, 1, 1, pixels, sizeof pixels, 1) == answer;
+    count += ribjasper_player_picture(player, picture) == answer;
+    count += ribjasper_player_colour(player, 0, colours) == answer;
+    count += ribjasper_player_colours(player, colours) == answer;
+    count += ribjasper_player_levels(player, levels) == answer;
+    count += ribjasper_player_border(player, &number) == answer;
+    count += ribjasper_player_offsets(player, &across, &number) == answer;
+    count += ribjasper_player_save(player, file) == answer;
+    count += ribjasper_player_copy(player, other) == answer;
+    return count;
 }
 
 #define LOOKING 11

@@ -123,39 +123,39 @@ static void entries(void)
 static void whole_streams(void)
 {
     static uint8_t stream[2 * 2448], packs[192];
-    ribjasper_converted told = { 9, 9, 9 };
+    ribjasper_converted result = { 9, 9, 9 };
     long number;
-    CHECK(ribjasper_convert(stream, 0, RIBJASPER_RAW, 0, packs, 0, &told) == RIBJASPER_CONVERTED && told.bytes == 0);
-    CHECK(ribjasper_convert(stream, 96, RIBJASPER_RAW, 0, packs, 0, &told) == RIBJASPER_CONVERTED && told.bytes == 0);
+    CHECK(ribjasper_convert(stream, 0, RIBJASPER_RAW, 0, packs, 0, &result) == RIBJASPER_CONVERTED && result.bytes == 0);
+    CHECK(ribjasper_convert(stream, 96, RIBJASPER_RAW, 0, packs, 0, &result) == RIBJASPER_CONVERTED && result.bytes == 0);
     memset(packs, 7, sizeof packs);
-    CHECK(ribjasper_convert(stream, 192, RIBJASPER_RAW, 0, packs, 24, &told) == RIBJASPER_CONVERTED);
-    CHECK(told.bytes == 24 && told.blocks == 2 && told.bad == 0 && all_are(packs, 24, 0) && all_are(packs + 24, 168, 7));
+    CHECK(ribjasper_convert(stream, 192, RIBJASPER_RAW, 0, packs, 24, &result) == RIBJASPER_CONVERTED);
+    CHECK(result.bytes == 24 && result.blocks == 2 && result.bad == 0 && all_are(packs, 24, 0) && all_are(packs + 24, 168, 7));
     /* The first pack with two and with three wrong symbols. */
     stream[50] = stream[100] = 1;
     memset(packs, 7, sizeof packs);
-    CHECK(ribjasper_convert(stream, 192, RIBJASPER_RAW, 0, packs, 192, &told) == RIBJASPER_CONVERTED && told.bad == 0);
+    CHECK(ribjasper_convert(stream, 192, RIBJASPER_RAW, 0, packs, 192, &result) == RIBJASPER_CONVERTED && result.bad == 0);
     CHECK(all_are(packs, 24, 0) && all_are(packs + 24, 168, 7));
     stream[150] = 1;
     memset(packs, 7, sizeof packs);
-    CHECK(ribjasper_convert(stream, 192, RIBJASPER_RAW, 0, packs, 192, &told) == RIBJASPER_DAMAGED && told.bad == 1);
-    CHECK(told.bytes == 24 && told.blocks == 2 && all_are(packs, 24, 0));
+    CHECK(ribjasper_convert(stream, 192, RIBJASPER_RAW, 0, packs, 192, &result) == RIBJASPER_DAMAGED && result.bad == 1);
+    CHECK(result.bytes == 24 && result.blocks == 2 && all_are(packs, 24, 0));
     memset(stream, 0, sizeof stream);
-    CHECK(ribjasper_convert(stream, 192, RIBJASPER_RAW, 1, packs, 0, &told) == RIBJASPER_CONVERTED && told.blocks == 1);
-    CHECK(ribjasper_convert(stream, 192, RIBJASPER_PACKS, 0, packs, 192, &told) == RIBJASPER_CONVERTED);
-    CHECK(told.bytes == 192);
-    CHECK(ribjasper_convert(stream, 4896, RIBJASPER_SECTORS, 0, packs, 24, &told) == RIBJASPER_CONVERTED);
-    CHECK(told.bytes == 24);
+    CHECK(ribjasper_convert(stream, 192, RIBJASPER_RAW, 1, packs, 0, &result) == RIBJASPER_CONVERTED && result.blocks == 1);
+    CHECK(ribjasper_convert(stream, 192, RIBJASPER_PACKS, 0, packs, 192, &result) == RIBJASPER_CONVERTED);
+    CHECK(result.bytes == 192);
+    CHECK(ribjasper_convert(stream, 4896, RIBJASPER_SECTORS, 0, packs, 24, &result) == RIBJASPER_CONVERTED);
+    CHECK(result.bytes == 24);
     /* A refused call writes nothing. */
     memset(packs, 7, sizeof packs);
-    CHECK(ribjasper_convert(stream, 100, RIBJASPER_RAW, 0, packs, 192, &told) == RIBJASPER_TORN);
-    CHECK(ribjasper_convert(stream, 192, RIBJASPER_RAW, 0, packs, 23, &told) == RIBJASPER_NO_ROOM);
-    CHECK(ribjasper_convert(stream, 192, 3, 0, packs, 192, &told) == RIBJASPER_USAGE);
-    CHECK(ribjasper_convert(stream, 192, RIBJASPER_RAW, 450001, packs, 192, &told) == RIBJASPER_USAGE);
-    CHECK(all_are(packs, 192, 7) && told.bytes == 24);
+    CHECK(ribjasper_convert(stream, 100, RIBJASPER_RAW, 0, packs, 192, &result) == RIBJASPER_TORN);
+    CHECK(ribjasper_convert(stream, 192, RIBJASPER_RAW, 0, packs, 23, &result) == RIBJASPER_NO_ROOM);
+    CHECK(ribjasper_convert(stream, 192, 3, 0, packs, 192, &result) == RIBJASPER_USAGE);
+    CHECK(ribjasper_convert(stream, 192, RIBJASPER_RAW, 450001, packs, 192, &result) == RIBJASPER_USAGE);
+    CHECK(all_are(packs, 192, 7) && result.bytes == 24);
     /* It allocates no memory. */
     refused = requests;
     number = requests;
-    CHECK(ribjasper_convert(stream, 192, RIBJASPER_RAW, 0, packs, 192, &told) == RIBJASPER_CONVERTED);
+    CHECK(ribjasper_convert(stream, 192, RIBJASPER_RAW, 0, packs, 192, &result) == RIBJASPER_CONVERTED);
     refused = -1;
     CHECK(requests == number && held == 0 && all_are(packs, 24, 0));
 }
@@ -166,24 +166,24 @@ static void edges_of_streams(void)
     static uint8_t stream[3 * 2448], packs[400];
     static const uint32_t sizes[3] = { 96, 96, 2448 };
     static const size_t texts[3] = { 120, 288, 120 };
-    ribjasper_converted told = { 9, 9, 9 };
+    ribjasper_converted result = { 9, 9, 9 };
     uint32_t form;
     size_t length, room;
     memset(packs, 7, sizeof packs);
     for (form = 0; form < 3; form++) {
         for (length = 0; length <= 3 * sizes[form]; length++)
             if (length % sizes[form] != 0)
-                CHECK(ribjasper_convert(stream, length, form, 0, packs, sizeof packs, &told) == RIBJASPER_TORN);
+                CHECK(ribjasper_convert(stream, length, form, 0, packs, sizeof packs, &result) == RIBJASPER_TORN);
         for (room = 0; room < texts[form]; room++)
-            CHECK(ribjasper_convert(stream, 3 * sizes[form], form, 0, packs, room, &told) == RIBJASPER_NO_ROOM);
-        CHECK(ribjasper_convert(stream, 3 * sizes[form] - 1, form, 0, packs, 0, &told) == RIBJASPER_TORN);
-        CHECK(ribjasper_convert(stream, 3 * sizes[form] - 1, form, 450001, packs, 0, &told) == RIBJASPER_USAGE);
+            CHECK(ribjasper_convert(stream, 3 * sizes[form], form, 0, packs, room, &result) == RIBJASPER_NO_ROOM);
+        CHECK(ribjasper_convert(stream, 3 * sizes[form] - 1, form, 0, packs, 0, &result) == RIBJASPER_TORN);
+        CHECK(ribjasper_convert(stream, 3 * sizes[form] - 1, form, 450001, packs, 0, &result) == RIBJASPER_USAGE);
     }
-    CHECK(all_are(packs, sizeof packs, 7) && told.bytes == 9 && told.blocks == 9 && told.bad == 9);
+    CHECK(all_are(packs, sizeof packs, 7) && result.bytes == 9 && result.blocks == 9 && result.bad == 9);
     for (form = 0; form < 3; form++) {
         memset(packs, 7, sizeof packs);
-        CHECK(ribjasper_convert(stream, 3 * sizes[form], form, 0, packs, texts[form], &told) == RIBJASPER_CONVERTED);
-        CHECK(told.bytes == texts[form] && told.blocks == 3 && told.bad == 0);
+        CHECK(ribjasper_convert(stream, 3 * sizes[form], form, 0, packs, texts[form], &result) == RIBJASPER_CONVERTED);
+        CHECK(result.bytes == texts[form] && result.blocks == 3 && result.bad == 0);
         CHECK(all_are(packs, texts[form], 0) && all_are(packs + texts[form], sizeof packs - texts[form], 7));
     }
 }

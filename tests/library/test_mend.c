@@ -57,10 +57,10 @@ static int all_are(const uint8_t *bytes, size_t count, uint8_t value)
     return 1;
 }
 
-static int is_told(const ribjasper_mended *told, uint32_t both, uint32_t first, uint32_t second, uint32_t agreed, uint32_t none)
+static int has_counts(const ribjasper_mended *result, uint32_t both, uint32_t first, uint32_t second, uint32_t agreed, uint32_t none)
 {
-    return told->bytes == ROOM && told->blocks == BLOCKS && told->both == both && told->of_first == first
-        && told->of_second == second && told->agreed == agreed && told->none == none;
+    return result->bytes == ROOM && result->blocks == BLOCKS && result->both == both && result->of_first == first
+        && result->of_second == second && result->agreed == agreed && result->none == none;
 }
 
 /* Word 1 is this pack and all others are zeros; nothing is written behind them. */
@@ -70,23 +70,23 @@ static int are_packs(const uint8_t *packs, const uint8_t word[24])
         && all_are(packs + ROOM, 5, 7);
 }
 
-static int32_t mend(const uint8_t *first, const uint8_t *second, uint8_t *packs, ribjasper_mended *told)
+static int32_t mend(const uint8_t *first, const uint8_t *second, uint8_t *packs, ribjasper_mended *result)
 {
     memset(packs, 7, ROOM + 5);
-    memset(told, 7, sizeof *told);
-    return ribjasper_mend(first, BYTES, second, BYTES, 0, packs, ROOM + 5, told);
+    memset(result, 7, sizeof *result);
+    return ribjasper_mend(first, BYTES, second, BYTES, 0, packs, ROOM + 5, result);
 }
 
 static void readings(void)
 {
     static const uint8_t zeros[24] = { 0 };
     uint8_t one[BYTES], other[BYTES], word[24], packs[ROOM + 5], near[24];
-    ribjasper_mended told;
+    ribjasper_mended result;
     make_stream(one);
     make_stream(other);
-    CHECK(mend(one, other, packs, &told) == RIBJASPER_CONVERTED && is_told(&told, 9, 0, 0, 0, 0));
+    CHECK(mend(one, other, packs, &result) == RIBJASPER_CONVERTED && has_counts(&result, 9, 0, 0, 0, 0));
     CHECK(are_packs(packs, preset));
-    CHECK(mend(one, one, packs, &told) == RIBJASPER_CONVERTED && is_told(&told, 9, 0, 0, 0, 0));
+    CHECK(mend(one, one, packs, &result) == RIBJASPER_CONVERTED && has_counts(&result, 9, 0, 0, 0, 0));
 
     /* Two wrong symbols in each reading, at different places: the same codeword is near both. */
     memcpy(word, preset, 24);
@@ -97,7 +97,7 @@ static void readings(void)
     word[4] ^= 5;
     word[22] ^= 9;
     put_word(other, 1, word);
-    CHECK(mend(one, other, packs, &told) == RIBJASPER_CONVERTED && is_told(&told, 9, 0, 0, 0, 0));
+    CHECK(mend(one, other, packs, &result) == RIBJASPER_CONVERTED && has_counts(&result, 9, 0, 0, 0, 0));
     CHECK(are_packs(packs, preset));
 
     /* Only one reading has it: the other one is mostly noise. */
@@ -106,12 +106,12 @@ static void readings(void)
         word[i] = (uint8_t)(3 * i + 11) & 0x3f;
     CHECK(ribjasper_correct(word, near) == -1);
     put_word(other, 1, word);
-    CHECK(mend(one, other, packs, &told) == RIBJASPER_CONVERTED && is_told(&told, 8, 1, 0, 0, 0));
+    CHECK(mend(one, other, packs, &result) == RIBJASPER_CONVERTED && has_counts(&result, 8, 1, 0, 0, 0));
     CHECK(are_packs(packs, preset));
-    CHECK(mend(other, one, packs, &told) == RIBJASPER_CONVERTED && is_told(&told, 8, 0, 1, 0, 0));
+    CHECK(mend(other, one, packs, &result) == RIBJASPER_CONVERTED && has_counts(&result, 8, 0, 1, 0, 0));
     CHECK(are_packs(packs, preset));
     /* Neither reading has it. */
-    CHECK(mend(other, other, packs, &told) == RIBJASPER_DAMAGED && is_told(&told, 8, 0, 0, 0, 1));
+    CHECK(mend(other, other, packs, &result) == RIBJASPER_DAMAGED && has_counts(&result, 8, 0, 0, 0, 1));
     CHECK(are_packs(packs, zeros));
 
     /* Three symbols are wrong in both, differently: the differences show where. */
@@ -126,7 +126,7 @@ static void readings(void)
     word[17] ^= 2;
     CHECK(ribjasper_correct(word, near) == -1);
     put_word(other, 1, word);
-    CHECK(mend(one, other, packs, &told) == RIBJASPER_CONVERTED && is_told(&told, 8, 0, 0, 1, 0));
+    CHECK(mend(one, other, packs, &result) == RIBJASPER_CONVERTED && has_counts(&result, 8, 0, 0, 1, 0));
     CHECK(are_packs(packs, preset));
 }
 
@@ -134,30 +134,30 @@ static void empty_blocks(void)
 {
     static const uint8_t zeros[24] = { 0 };
     uint8_t one[BYTES], other[BYTES], word[24], packs[ROOM + 5];
-    ribjasper_mended told;
+    ribjasper_mended result;
     make_stream(one);
     /* Unread blocks have no codeword, although zeros are one. */
     memset(other, 0, BYTES);
-    CHECK(mend(one, other, packs, &told) == RIBJASPER_CONVERTED && is_told(&told, 0, 9, 0, 0, 0));
+    CHECK(mend(one, other, packs, &result) == RIBJASPER_CONVERTED && has_counts(&result, 0, 9, 0, 0, 0));
     CHECK(are_packs(packs, preset));
-    CHECK(mend(other, one, packs, &told) == RIBJASPER_CONVERTED && is_told(&told, 0, 0, 9, 0, 0));
+    CHECK(mend(other, one, packs, &result) == RIBJASPER_CONVERTED && has_counts(&result, 0, 0, 9, 0, 0));
     CHECK(are_packs(packs, preset));
-    CHECK(mend(other, other, packs, &told) == RIBJASPER_DAMAGED && is_told(&told, 0, 0, 0, 0, 9));
+    CHECK(mend(other, other, packs, &result) == RIBJASPER_DAMAGED && has_counts(&result, 0, 0, 0, 0, 9));
     CHECK(are_packs(packs, zeros));
     /* The first two blocks were not read: the third has so few symbols of word 1 that zeros are near. That reading misses
        graphics there, and is quiet at all words, so none of its idle packs counts. */
     make_stream(other);
     memset(other, 0, 2 * 96);
-    CHECK(mend(one, other, packs, &told) == RIBJASPER_CONVERTED && is_told(&told, 0, 9, 0, 0, 0));
+    CHECK(mend(one, other, packs, &result) == RIBJASPER_CONVERTED && has_counts(&result, 0, 9, 0, 0, 0));
     CHECK(are_packs(packs, preset));
-    CHECK(mend(other, one, packs, &told) == RIBJASPER_CONVERTED && is_told(&told, 0, 0, 9, 0, 0));
+    CHECK(mend(other, one, packs, &result) == RIBJASPER_CONVERTED && has_counts(&result, 0, 0, 9, 0, 0));
     CHECK(are_packs(packs, preset));
     /* The same if the graphics pack has two wrong symbols. */
     memcpy(word, preset, 24);
     word[0] ^= 5;
     word[1] ^= 9;
     put_word(one, 1, word);
-    CHECK(mend(one, other, packs, &told) == RIBJASPER_CONVERTED && is_told(&told, 0, 9, 0, 0, 0));
+    CHECK(mend(one, other, packs, &result) == RIBJASPER_CONVERTED && has_counts(&result, 0, 9, 0, 0, 0));
     CHECK(are_packs(packs, preset));
     /* Two symbols of a pack of extended graphics are wrong: it does not show that the other reading lacks graphics. The idle
        pack with unread blocks is still the last choice. */
@@ -165,25 +165,25 @@ static void empty_blocks(void)
     word[4] ^= 5;
     word[5] ^= 9;
     put_word(one, 1, word);
-    CHECK(mend(one, other, packs, &told) == RIBJASPER_CONVERTED && is_told(&told, 7, 2, 0, 0, 0));
+    CHECK(mend(one, other, packs, &result) == RIBJASPER_CONVERTED && has_counts(&result, 7, 2, 0, 0, 0));
     CHECK(are_packs(packs, extended));
-    CHECK(mend(other, one, packs, &told) == RIBJASPER_CONVERTED && is_told(&told, 7, 0, 2, 0, 0));
+    CHECK(mend(other, one, packs, &result) == RIBJASPER_CONVERTED && has_counts(&result, 7, 0, 2, 0, 0));
     CHECK(are_packs(packs, extended));
     make_stream(one);
     /* Idle symbols with good frames in all blocks: a reading without channels R to W. */
     memset(other, 0, BYTES);
     for (size_t block = 0; block < BLOCKS; block++)
         memset(other + 96 * block + 80, 0x40, 16);
-    CHECK(mend(one, other, packs, &told) == RIBJASPER_CONVERTED && is_told(&told, 0, 9, 0, 0, 0));
+    CHECK(mend(one, other, packs, &result) == RIBJASPER_CONVERTED && has_counts(&result, 0, 9, 0, 0, 0));
     CHECK(are_packs(packs, preset));
-    CHECK(mend(other, one, packs, &told) == RIBJASPER_CONVERTED && is_told(&told, 0, 0, 9, 0, 0));
+    CHECK(mend(other, one, packs, &result) == RIBJASPER_CONVERTED && has_counts(&result, 0, 0, 9, 0, 0));
     CHECK(are_packs(packs, preset));
-    CHECK(mend(other, other, packs, &told) == RIBJASPER_CONVERTED && is_told(&told, 9, 0, 0, 0, 0));
+    CHECK(mend(other, other, packs, &result) == RIBJASPER_CONVERTED && has_counts(&result, 9, 0, 0, 0, 0));
     CHECK(are_packs(packs, zeros));
     /* The same with frames whose check is wrong: a block with a bit in any channel was read. */
     for (size_t block = 0; block < BLOCKS; block++)
         memset(other + 96 * block + 80, 0, 15);
-    CHECK(mend(other, other, packs, &told) == RIBJASPER_CONVERTED && is_told(&told, 9, 0, 0, 0, 0));
+    CHECK(mend(other, other, packs, &result) == RIBJASPER_CONVERTED && has_counts(&result, 9, 0, 0, 0, 0));
 }
 
 /* A codeword with a wrong symbol, whose mode and item no disc uses, does not count if another reading is quiet. */
@@ -191,29 +191,29 @@ static void doubtful_codewords(void)
 {
     static const uint8_t zeros[24] = { 0 };
     uint8_t one[BYTES], other[BYTES], word[24], packs[ROOM + 5];
-    ribjasper_mended told;
+    ribjasper_mended result;
     make_stream(one);
     make_stream(other);
     memcpy(word, unused, 24);
     word[4] ^= 5;
     put_word(one, 1, word);
     put_word(other, 1, zeros);
-    CHECK(mend(one, other, packs, &told) == RIBJASPER_CONVERTED && is_told(&told, 8, 0, 1, 0, 0));
+    CHECK(mend(one, other, packs, &result) == RIBJASPER_CONVERTED && has_counts(&result, 8, 0, 1, 0, 0));
     CHECK(are_packs(packs, zeros));
-    CHECK(mend(other, one, packs, &told) == RIBJASPER_CONVERTED && is_told(&told, 8, 1, 0, 0, 0));
+    CHECK(mend(other, one, packs, &result) == RIBJASPER_CONVERTED && has_counts(&result, 8, 1, 0, 0, 0));
     CHECK(are_packs(packs, zeros));
     /* It counts beside itself. */
-    CHECK(mend(one, one, packs, &told) == RIBJASPER_CONVERTED && is_told(&told, 9, 0, 0, 0, 0));
+    CHECK(mend(one, one, packs, &result) == RIBJASPER_CONVERTED && has_counts(&result, 9, 0, 0, 0, 0));
     CHECK(are_packs(packs, unused));
     /* Beside a reading that was not read there it does not count, and there is no other codeword. */
     memset(other, 0, BYTES);
-    CHECK(mend(one, other, packs, &told) == RIBJASPER_DAMAGED && is_told(&told, 0, 8, 0, 0, 1));
+    CHECK(mend(one, other, packs, &result) == RIBJASPER_DAMAGED && has_counts(&result, 0, 8, 0, 0, 1));
     CHECK(are_packs(packs, zeros));
     /* Without wrong symbols it shows that the idle reading lacks graphics. */
     make_stream(other);
     put_word(other, 1, zeros);
     put_word(one, 1, unused);
-    CHECK(mend(one, other, packs, &told) == RIBJASPER_CONVERTED && is_told(&told, 0, 9, 0, 0, 0));
+    CHECK(mend(one, other, packs, &result) == RIBJASPER_CONVERTED && has_counts(&result, 0, 9, 0, 0, 0));
     CHECK(are_packs(packs, unused));
 }
 
@@ -252,41 +252,41 @@ static void reports(void)
 static void refusals(void)
 {
     uint8_t one[BYTES], packs[ROOM + 5], kept[ROOM + 5];
-    ribjasper_mended told, before;
+    ribjasper_mended result, before;
     make_stream(one);
     memset(packs, 7, sizeof packs);
     memcpy(kept, packs, sizeof packs);
-    memset(&told, 7, sizeof told);
-    memcpy(&before, &told, sizeof told);
-    CHECK(ribjasper_mend(one, BYTES, one, BYTES, 450001, packs, ROOM, &told) == RIBJASPER_USAGE);
-    CHECK(ribjasper_mend(one, 95, one, BYTES, 450001, packs, 0, &told) == RIBJASPER_USAGE);
-    CHECK(ribjasper_mend(one, BYTES, one, BYTES - 96, 0, packs, ROOM, &told) == RIBJASPER_TORN);
-    CHECK(ribjasper_mend(one, BYTES - 96, one, BYTES, 0, packs, 0, &told) == RIBJASPER_TORN);
+    memset(&result, 7, sizeof result);
+    memcpy(&before, &result, sizeof result);
+    CHECK(ribjasper_mend(one, BYTES, one, BYTES, 450001, packs, ROOM, &result) == RIBJASPER_USAGE);
+    CHECK(ribjasper_mend(one, 95, one, BYTES, 450001, packs, 0, &result) == RIBJASPER_USAGE);
+    CHECK(ribjasper_mend(one, BYTES, one, BYTES - 96, 0, packs, ROOM, &result) == RIBJASPER_TORN);
+    CHECK(ribjasper_mend(one, BYTES - 96, one, BYTES, 0, packs, 0, &result) == RIBJASPER_TORN);
     for (size_t rest = 1; rest < 96; rest++)
-        CHECK(ribjasper_mend(one, 96 + rest, one, 96 + rest, 0, packs, ROOM, &told) == RIBJASPER_TORN);
+        CHECK(ribjasper_mend(one, 96 + rest, one, 96 + rest, 0, packs, ROOM, &result) == RIBJASPER_TORN);
     for (size_t room = 0; room < ROOM; room++)
-        CHECK(ribjasper_mend(one, BYTES, one, BYTES, 0, packs, room, &told) == RIBJASPER_NO_ROOM);
-    CHECK(memcmp(packs, kept, sizeof packs) == 0 && memcmp(&told, &before, sizeof told) == 0);
+        CHECK(ribjasper_mend(one, BYTES, one, BYTES, 0, packs, room, &result) == RIBJASPER_NO_ROOM);
+    CHECK(memcmp(packs, kept, sizeof packs) == 0 && memcmp(&result, &before, sizeof result) == 0);
     /* A program of one block or none has no words. */
-    CHECK(ribjasper_mend(one, BYTES, one, BYTES, 3, packs, 0, &told) == RIBJASPER_CONVERTED);
-    CHECK(told.bytes == 0 && told.blocks == 1 && told.both == 0 && told.none == 0);
-    CHECK(ribjasper_mend(one, BYTES, one, BYTES, 450000, packs, 0, &told) == RIBJASPER_CONVERTED && told.blocks == 0);
-    CHECK(ribjasper_mend(one, 0, one, 0, 0, packs, 0, &told) == RIBJASPER_CONVERTED && told.bytes == 0);
+    CHECK(ribjasper_mend(one, BYTES, one, BYTES, 3, packs, 0, &result) == RIBJASPER_CONVERTED);
+    CHECK(result.bytes == 0 && result.blocks == 1 && result.both == 0 && result.none == 0);
+    CHECK(ribjasper_mend(one, BYTES, one, BYTES, 450000, packs, 0, &result) == RIBJASPER_CONVERTED && result.blocks == 0);
+    CHECK(ribjasper_mend(one, 0, one, 0, 0, packs, 0, &result) == RIBJASPER_CONVERTED && result.bytes == 0);
     CHECK(memcmp(packs, kept, sizeof packs) == 0);
     /* A lead-in is skipped: word 0 of the program is then word 4 of the stream. */
     put_word(one, 4, preset);
-    CHECK(ribjasper_mend(one, BYTES, one, BYTES, 1, packs, 120, &told) == RIBJASPER_CONVERTED);
-    CHECK(told.bytes == 120 && told.blocks == 3 && told.both == 5 && memcmp(packs, preset, 24) == 0);
+    CHECK(ribjasper_mend(one, BYTES, one, BYTES, 1, packs, 120, &result) == RIBJASPER_CONVERTED);
+    CHECK(result.bytes == 120 && result.blocks == 3 && result.both == 5 && memcmp(packs, preset, 24) == 0);
     CHECK(memcmp(packs + 120, kept + 120, sizeof packs - 120) == 0);
 }
 
-static int tallies_are(const ribjasper_mended_readings *told, const uint32_t *of_reading, const uint32_t *dropped,
+static int tallies_are(const ribjasper_mended_readings *result, const uint32_t *of_reading, const uint32_t *dropped,
                        uint32_t count, uint32_t agreed, uint32_t none)
 {
     for (uint32_t r = 0; r < RIBJASPER_READINGS; r++)
-        if (told->of_reading[r] != (r < count ? of_reading[r] : 0) || told->dropped[r] != (r < count ? dropped[r] : 0))
+        if (result->of_reading[r] != (r < count ? of_reading[r] : 0) || result->dropped[r] != (r < count ? dropped[r] : 0))
             return 0;
-    return told->bytes == ROOM && told->blocks == BLOCKS && told->agreed == agreed && told->none == none && told->reserved == 0;
+    return result->bytes == ROOM && result->blocks == BLOCKS && result->agreed == agreed && result->none == none && result->reserved == 0;
 }
 
 /* Three readings and more, one behind another. */
@@ -296,7 +296,7 @@ static void many_readings(void)
     static const uint32_t of_last[] = { 0, 0, 9 }, none_of[] = { 0, 0, 0 }, left_out[] = { 9, 9, 0 };
     static const uint32_t of_first[] = { 9, 0, 0 }, of_both[] = { 8, 1, 0 };
     uint8_t packs[ROOM + 5], sources[WORDS + 3], word[24];
-    ribjasper_mended_readings told;
+    ribjasper_mended_readings result;
     /* Two readings without channels R to W, and then a whole one, which is the result. */
     for (size_t r = 0; r < 3; r++) {
         make_stream(all + r * BYTES);
@@ -305,17 +305,17 @@ static void many_readings(void)
     }
     memset(packs, 7, sizeof packs);
     memset(sources, 7, sizeof sources);
-    CHECK(ribjasper_mend_readings(all, 3 * BYTES, 3, 0, packs, sizeof packs, sources, sizeof sources, &told) == RIBJASPER_CONVERTED);
+    CHECK(ribjasper_mend_readings(all, 3 * BYTES, 3, 0, packs, sizeof packs, sources, sizeof sources, &result) == RIBJASPER_CONVERTED);
     CHECK(are_packs(packs, preset) && all_are(sources, WORDS, 2) && all_are(sources + WORDS, 3, 7));
-    CHECK(tallies_are(&told, of_last, left_out, 3, 0, 0));
+    CHECK(tallies_are(&result, of_last, left_out, 3, 0, 0));
     /* Without room for sources, which may be null. */
     memset(packs, 7, sizeof packs);
-    CHECK(ribjasper_mend_readings(all, 3 * BYTES, 3, 0, packs, sizeof packs, NULL, 0, &told) == RIBJASPER_CONVERTED);
-    CHECK(are_packs(packs, preset) && tallies_are(&told, of_last, left_out, 3, 0, 0));
+    CHECK(ribjasper_mend_readings(all, 3 * BYTES, 3, 0, packs, sizeof packs, NULL, 0, &result) == RIBJASPER_CONVERTED);
+    CHECK(are_packs(packs, preset) && tallies_are(&result, of_last, left_out, 3, 0, 0));
     /* A single reading is corrected. */
     memset(packs, 7, sizeof packs);
-    CHECK(ribjasper_mend_readings(all + 2 * BYTES, BYTES, 1, 0, packs, sizeof packs, sources, WORDS, &told) == RIBJASPER_CONVERTED);
-    CHECK(are_packs(packs, preset) && all_are(sources, WORDS, 0) && tallies_are(&told, of_first, none_of, 1, 0, 0));
+    CHECK(ribjasper_mend_readings(all + 2 * BYTES, BYTES, 1, 0, packs, sizeof packs, sources, WORDS, &result) == RIBJASPER_CONVERTED);
+    CHECK(are_packs(packs, preset) && all_are(sources, WORDS, 0) && tallies_are(&result, of_first, none_of, 1, 0, 0));
     /* Of three readings, the one with the fewest wrong symbols is the source: two, one and none are wrong. */
     for (size_t r = 0; r < 3; r++) {
         make_stream(all + r * BYTES);
@@ -324,9 +324,9 @@ static void many_readings(void)
             word[5 + k] ^= 1;
         put_word(all + r * BYTES, 1, word);
     }
-    CHECK(ribjasper_mend_readings(all, 2 * BYTES, 2, 0, packs, ROOM, sources, WORDS, &told) == RIBJASPER_CONVERTED);
-    CHECK(sources[0] == 0 && sources[1] == 1 && all_are(sources + 2, WORDS - 2, 0) && tallies_are(&told, of_both, none_of, 2, 0, 0));
-    CHECK(ribjasper_mend_readings(all, 3 * BYTES, 3, 0, packs, ROOM, sources, WORDS, &told) == RIBJASPER_CONVERTED);
+    CHECK(ribjasper_mend_readings(all, 2 * BYTES, 2, 0, packs, ROOM, sources, WORDS, &result) == RIBJASPER_CONVERTED);
+    CHECK(sources[0] == 0 && sources[1] == 1 && all_are(sources + 2, WORDS - 2, 0) && tallies_are(&result, of_both, none_of, 2, 0, 0));
+    CHECK(ribjasper_mend_readings(all, 3 * BYTES, 3, 0, packs, ROOM, sources, WORDS, &result) == RIBJASPER_CONVERTED);
     CHECK(sources[0] == 0 && sources[1] == 2 && memcmp(packs + 24, preset, 24) == 0);
     /* Two readings are lost there, and agree on it. */
     for (size_t r = 0; r < 2; r++) {
@@ -335,64 +335,64 @@ static void many_readings(void)
             word[k] ^= r == 0 ? 1 : 3;
         put_word(all + r * BYTES, 1, word);
     }
-    CHECK(ribjasper_mend_readings(all, 2 * BYTES, 2, 0, packs, ROOM, sources, WORDS, &told) == RIBJASPER_CONVERTED);
-    CHECK(sources[1] == RIBJASPER_AGREED && memcmp(packs + 24, preset, 24) == 0 && told.agreed == 1 && told.none == 0);
-    CHECK(ribjasper_mend_readings(all, BYTES, 1, 0, packs, ROOM, sources, WORDS, &told) == RIBJASPER_DAMAGED);
-    CHECK(sources[1] == RIBJASPER_NO_READING && all_are(packs, ROOM, 0) && told.agreed == 0 && told.none == 1);
+    CHECK(ribjasper_mend_readings(all, 2 * BYTES, 2, 0, packs, ROOM, sources, WORDS, &result) == RIBJASPER_CONVERTED);
+    CHECK(sources[1] == RIBJASPER_AGREED && memcmp(packs + 24, preset, 24) == 0 && result.agreed == 1 && result.none == 0);
+    CHECK(ribjasper_mend_readings(all, BYTES, 1, 0, packs, ROOM, sources, WORDS, &result) == RIBJASPER_DAMAGED);
+    CHECK(sources[1] == RIBJASPER_NO_READING && all_are(packs, ROOM, 0) && result.agreed == 0 && result.none == 1);
     /* The greatest number of readings that have different sources: all except the last lack channels R to W. */
     for (size_t r = 0; r < 255; r++) {
         make_stream(all + r * BYTES);
         for (size_t k = 0; r < 253 && k < BYTES; k++)
             all[r * BYTES + k] &= 0xc0;
     }
-    CHECK(ribjasper_mend_readings(all, 254 * BYTES, 254, 0, packs, ROOM, sources, WORDS, &told) == RIBJASPER_CONVERTED);
-    CHECK(all_are(sources, WORDS, 253) && told.of_reading[253] == WORDS && told.dropped[0] == WORDS && told.dropped[253] == 0);
+    CHECK(ribjasper_mend_readings(all, 254 * BYTES, 254, 0, packs, ROOM, sources, WORDS, &result) == RIBJASPER_CONVERTED);
+    CHECK(all_are(sources, WORDS, 253) && result.of_reading[253] == WORDS && result.dropped[0] == WORDS && result.dropped[253] == 0);
 }
 
 static void refusals_of_many(void)
 {
     uint8_t all[2 * BYTES], packs[ROOM], kept[ROOM], sources[WORDS];
-    ribjasper_mended_readings told, before;
+    ribjasper_mended_readings result, before;
     make_stream(all);
     make_stream(all + BYTES);
     memset(packs, 7, sizeof packs);
     memcpy(kept, packs, sizeof packs);
     memset(sources, 7, sizeof sources);
-    memset(&told, 7, sizeof told);
-    memcpy(&before, &told, sizeof told);
-    CHECK(ribjasper_mend_readings(all, 2 * BYTES, 2, 450001, packs, ROOM, sources, WORDS, &told) == RIBJASPER_USAGE);
-    CHECK(ribjasper_mend_readings(all, 2 * BYTES, 0, 0, packs, ROOM, sources, WORDS, &told) == RIBJASPER_USAGE);
-    CHECK(ribjasper_mend_readings(all, 2 * BYTES, 255, 0, packs, ROOM, sources, WORDS, &told) == RIBJASPER_USAGE);
-    CHECK(ribjasper_mend_readings(all, 2 * BYTES, UINT32_MAX, 0, packs, ROOM, sources, WORDS, &told) == RIBJASPER_USAGE);
+    memset(&result, 7, sizeof result);
+    memcpy(&before, &result, sizeof result);
+    CHECK(ribjasper_mend_readings(all, 2 * BYTES, 2, 450001, packs, ROOM, sources, WORDS, &result) == RIBJASPER_USAGE);
+    CHECK(ribjasper_mend_readings(all, 2 * BYTES, 0, 0, packs, ROOM, sources, WORDS, &result) == RIBJASPER_USAGE);
+    CHECK(ribjasper_mend_readings(all, 2 * BYTES, 255, 0, packs, ROOM, sources, WORDS, &result) == RIBJASPER_USAGE);
+    CHECK(ribjasper_mend_readings(all, 2 * BYTES, UINT32_MAX, 0, packs, ROOM, sources, WORDS, &result) == RIBJASPER_USAGE);
     for (size_t rest = 1; rest < 192; rest++)
-        CHECK(ribjasper_mend_readings(all, 192 + rest, 2, 0, packs, ROOM, sources, WORDS, &told) == RIBJASPER_TORN);
-    CHECK(ribjasper_mend_readings(all, 96 * 7, 3, 0, packs, ROOM, sources, WORDS, &told) == RIBJASPER_TORN);
+        CHECK(ribjasper_mend_readings(all, 192 + rest, 2, 0, packs, ROOM, sources, WORDS, &result) == RIBJASPER_TORN);
+    CHECK(ribjasper_mend_readings(all, 96 * 7, 3, 0, packs, ROOM, sources, WORDS, &result) == RIBJASPER_TORN);
     for (size_t room = 0; room < ROOM; room++)
-        CHECK(ribjasper_mend_readings(all, 2 * BYTES, 2, 0, packs, room, sources, WORDS, &told) == RIBJASPER_NO_ROOM);
+        CHECK(ribjasper_mend_readings(all, 2 * BYTES, 2, 0, packs, room, sources, WORDS, &result) == RIBJASPER_NO_ROOM);
     for (size_t words = 1; words < WORDS; words++)
-        CHECK(ribjasper_mend_readings(all, 2 * BYTES, 2, 0, packs, ROOM, sources, words, &told) == RIBJASPER_NO_ROOM);
-    CHECK(memcmp(packs, kept, sizeof packs) == 0 && all_are(sources, WORDS, 7) && memcmp(&told, &before, sizeof told) == 0);
+        CHECK(ribjasper_mend_readings(all, 2 * BYTES, 2, 0, packs, ROOM, sources, words, &result) == RIBJASPER_NO_ROOM);
+    CHECK(memcmp(packs, kept, sizeof packs) == 0 && all_are(sources, WORDS, 7) && memcmp(&result, &before, sizeof result) == 0);
     /* A program of one block or none has no words. */
-    CHECK(ribjasper_mend_readings(all, 2 * BYTES, 2, 3, packs, 0, NULL, 0, &told) == RIBJASPER_CONVERTED);
-    CHECK(told.bytes == 0 && told.blocks == 1 && told.none == 0 && told.of_reading[0] == 0);
-    CHECK(ribjasper_mend_readings(all, 0, 2, 0, packs, 0, NULL, 0, &told) == RIBJASPER_CONVERTED && told.blocks == 0);
+    CHECK(ribjasper_mend_readings(all, 2 * BYTES, 2, 3, packs, 0, NULL, 0, &result) == RIBJASPER_CONVERTED);
+    CHECK(result.bytes == 0 && result.blocks == 1 && result.none == 0 && result.of_reading[0] == 0);
+    CHECK(ribjasper_mend_readings(all, 0, 2, 0, packs, 0, NULL, 0, &result) == RIBJASPER_CONVERTED && result.blocks == 0);
     /* A lead-in is skipped in each reading. */
     put_word(all, 4, preset);
     put_word(all + BYTES, 4, preset);
-    CHECK(ribjasper_mend_readings(all, 2 * BYTES, 2, 1, packs, 120, sources, 5, &told) == RIBJASPER_CONVERTED);
-    CHECK(told.bytes == 120 && told.blocks == 3 && memcmp(packs, preset, 24) == 0);
+    CHECK(ribjasper_mend_readings(all, 2 * BYTES, 2, 1, packs, 120, sources, 5, &result) == RIBJASPER_CONVERTED);
+    CHECK(result.bytes == 120 && result.blocks == 3 && memcmp(packs, preset, 24) == 0);
 }
 
 /* A stream in a buffer of exactly this size, between bytes that must not change. */
 enum { EDGE = 5 };
 static uint8_t streamed[BYTES + 2 * EDGE], named[WORDS + 2 * EDGE];
 
-static int32_t mend_stream(const uint8_t *all, uint32_t count, uint32_t lead_in, size_t words, ribjasper_mended_readings *told)
+static int32_t mend_stream(const uint8_t *all, uint32_t count, uint32_t lead_in, size_t words, ribjasper_mended_readings *result)
 {
     memset(streamed, 7, sizeof streamed);
     memset(named, 7, sizeof named);
-    memset(told, 7, sizeof *told);
-    return ribjasper_mend_stream(all, count * BYTES, count, lead_in, streamed + EDGE, BYTES, named + EDGE, words, told);
+    memset(result, 7, sizeof *result);
+    return ribjasper_mend_stream(all, count * BYTES, count, lead_in, streamed + EDGE, BYTES, named + EDGE, words, result);
 }
 
 static int stays_outside(size_t words)
@@ -419,7 +419,7 @@ static void streams(void)
 {
     static uint8_t all[3 * BYTES];
     uint8_t word[24], packs[ROOM], bare[BYTES];
-    ribjasper_mended_readings told;
+    ribjasper_mended_readings result;
     ribjasper_converted converted;
     size_t k;
     /* The result for one reading with two wrong symbols in a word is this reading, corrected. */
@@ -429,9 +429,9 @@ static void streams(void)
     word[0] ^= 1;
     word[23] ^= 63;
     put_word(all, 1, word);
-    CHECK(mend_stream(all, 1, 0, WORDS, &told) == RIBJASPER_CONVERTED && stays_outside(WORDS));
+    CHECK(mend_stream(all, 1, 0, WORDS, &result) == RIBJASPER_CONVERTED && stays_outside(WORDS));
     CHECK(memcmp(streamed + EDGE, bare, BYTES) == 0 && all_are(named + EDGE, WORDS, 0));
-    CHECK(told.bytes == BYTES && told.blocks == BLOCKS && told.of_reading[0] == WORDS && told.none == 0);
+    CHECK(result.bytes == BYTES && result.blocks == BLOCKS && result.of_reading[0] == WORDS && result.none == 0);
     /* Channels P and Q come from the only reading with a good Q frame: the third. */
     make_stream(all);
     make_stream(all + BYTES);
@@ -441,7 +441,7 @@ static void streams(void)
         all[BYTES + 96 + k] ^= k % 2 == 0 ? 0x40 : 0;
         all[2 * BYTES + 96 + k] |= 0x80;
     }
-    CHECK(mend_stream(all, 3, 0, WORDS, &told) == RIBJASPER_CONVERTED && stays_outside(WORDS));
+    CHECK(mend_stream(all, 3, 0, WORDS, &result) == RIBJASPER_CONVERTED && stays_outside(WORDS));
     for (k = 0; k < BYTES; k++)
         CHECK(channels_at(k) == ((k / 96 == 1 ? all[2 * BYTES + k] : bare[k]) & 0xc0) && symbol_at(k) == (bare[k] & 0x3f));
     /* If no frame is good, they come from a reading that was read: the second, whose symbols are not all 0. */
@@ -450,13 +450,13 @@ static void streams(void)
     memset(all + 96 * 3, 0, 96);
     for (k = 0; k < 96; k++)
         all[BYTES + 96 * 3 + k] = (uint8_t)(0x80 | (k == 71 ? 9 : 0));
-    CHECK(mend_stream(all, 2, 0, WORDS, &told) == RIBJASPER_CONVERTED && stays_outside(WORDS));
+    CHECK(mend_stream(all, 2, 0, WORDS, &result) == RIBJASPER_CONVERTED && stays_outside(WORDS));
     for (k = 96 * 3; k < BYTES; k++)
         CHECK(channels_at(k) == 0x80);
     /* A block with only P bits was read. */
     memset(all + BYTES + 96 * 3, 0, 96);
     memset(all + 96 * 3, 0x80, 96);
-    CHECK(mend_stream(all, 2, 0, WORDS, &told) == RIBJASPER_CONVERTED);
+    CHECK(mend_stream(all, 2, 0, WORDS, &result) == RIBJASPER_CONVERTED);
     for (k = 96 * 3; k < BYTES; k++)
         CHECK(channels_at(k) == 0x80 && symbol_at(k) == 0);
     /* Symbols that belong to no whole word come from a reading that was read there: the greater of two different ones. */
@@ -468,7 +468,7 @@ static void streams(void)
             all[BYTES + k] |= 42;
         }
     memset(all, 0, 96);
-    CHECK(mend_stream(all, 2, 0, WORDS, &told) == RIBJASPER_CONVERTED && stays_outside(WORDS));
+    CHECK(mend_stream(all, 2, 0, WORDS, &result) == RIBJASPER_CONVERTED && stays_outside(WORDS));
     for (k = 0; k < BYTES; k++)
         CHECK(symbol_at(k) == (is_of_word(k) ? bare[k] & 0x3f : 42));
     /* Both readings lost a word at different places: the symbols of each block come from the reading with the greater ones, and
@@ -484,8 +484,8 @@ static void streams(void)
     for (k = 0; k < BYTES; k += 96)
         memcpy(bare + k, memcmp(all + k, all + BYTES + k, 96) > 0 ? all + k : all + BYTES + k, 96);
     CHECK(memcmp(bare, all, BYTES) != 0 && memcmp(bare, all + BYTES, BYTES) != 0);
-    CHECK(mend_stream(all, 2, 0, WORDS, &told) == RIBJASPER_DAMAGED && stays_outside(WORDS));
-    CHECK(named[EDGE + 1] == RIBJASPER_NO_READING && told.none == 1 && memcmp(streamed + EDGE, bare, BYTES) == 0);
+    CHECK(mend_stream(all, 2, 0, WORDS, &result) == RIBJASPER_DAMAGED && stays_outside(WORDS));
+    CHECK(named[EDGE + 1] == RIBJASPER_NO_READING && result.none == 1 && memcmp(streamed + EDGE, bare, BYTES) == 0);
     CHECK(ribjasper_convert(streamed + EDGE, BYTES, RIBJASPER_RAW, 0, packs, ROOM, &converted) == RIBJASPER_DAMAGED && converted.bad == 1);
     /* The lead-in comes from the reading that was read there; word 0 of the program is word 4 of the stream. */
     make_stream(all);
@@ -496,15 +496,15 @@ static void streams(void)
     put_word(all + BYTES, 4, preset);
     memset(all, 0, 96);
     memset(all + BYTES, 0x2a, 96);
-    CHECK(mend_stream(all, 2, 1, WORDS - 4, &told) == RIBJASPER_CONVERTED && stays_outside(WORDS - 4));
-    CHECK(told.bytes == BYTES && told.blocks == 3 && named[EDGE] == 1 && all_are(streamed + EDGE, 96, 0x2a));
+    CHECK(mend_stream(all, 2, 1, WORDS - 4, &result) == RIBJASPER_CONVERTED && stays_outside(WORDS - 4));
+    CHECK(result.bytes == BYTES && result.blocks == 3 && named[EDGE] == 1 && all_are(streamed + EDGE, 96, 0x2a));
     CHECK(ribjasper_convert(streamed + EDGE, BYTES, RIBJASPER_RAW, 1, packs, ROOM, &converted) == RIBJASPER_CONVERTED);
     CHECK(converted.bytes == ROOM - 96 && memcmp(packs, preset, 24) == 0 && memcmp(streamed + EDGE + 96, all + BYTES + 96, BYTES - 96) == 0);
     /* A program of one block or none has no words: each block comes from a reading that was read there. */
     for (uint32_t lead_in = 3; lead_in < 6; lead_in++) {
         memset(streamed, 7, sizeof streamed);
-        CHECK(ribjasper_mend_stream(all, 2 * BYTES, 2, lead_in, streamed + EDGE, BYTES, NULL, 0, &told) == RIBJASPER_CONVERTED);
-        CHECK(told.blocks == (lead_in == 3 ? 1 : 0) && told.bytes == BYTES && told.none == 0);
+        CHECK(ribjasper_mend_stream(all, 2 * BYTES, 2, lead_in, streamed + EDGE, BYTES, NULL, 0, &result) == RIBJASPER_CONVERTED);
+        CHECK(result.blocks == (lead_in == 3 ? 1 : 0) && result.bytes == BYTES && result.none == 0);
         CHECK(all_are(streamed + EDGE, 96, 0x2a) && memcmp(streamed + EDGE + 96, all + 96, BYTES - 96) == 0);
         CHECK(all_are(streamed, EDGE, 7) && all_are(streamed + EDGE + BYTES, EDGE, 7));
     }
@@ -517,7 +517,7 @@ static void streams_in_each_order(void)
     enum { COUNT = 5 };
     static uint8_t each[COUNT][BYTES], all[COUNT * BYTES];
     uint8_t right[BYTES];
-    ribjasper_mended_readings told;
+    ribjasper_mended_readings result;
     int orders = 0;
     for (size_t r = 0; r < COUNT; r++) {
         static const uint8_t others[COUNT] = { 21, 42, 21, 63, 63 };
@@ -555,7 +555,7 @@ static void streams_in_each_order(void)
             continue;
         for (size_t place = 0; place < COUNT; place++)
             memcpy(all + place * BYTES, each[digits[place]], BYTES);
-        CHECK(mend_stream(all, COUNT, 0, WORDS, &told) == RIBJASPER_CONVERTED && stays_outside(WORDS));
+        CHECK(mend_stream(all, COUNT, 0, WORDS, &result) == RIBJASPER_CONVERTED && stays_outside(WORDS));
         CHECK(memcmp(streamed + EDGE, right, BYTES) == 0);
         orders++;
     }
@@ -567,7 +567,7 @@ static void streams_of_all_lengths(void)
 {
     enum { LONG = 9 };
     static uint8_t all[3 * 96 * LONG], right[96 * LONG], got[96 * LONG + 1], sources[4 * LONG + 1];
-    ribjasper_mended_readings told;
+    ribjasper_mended_readings result;
     for (size_t blocks = 0; blocks <= LONG; blocks++)
         for (uint32_t lead_in = 0; lead_in <= blocks + 1; lead_in++) {
             size_t size = 96 * blocks, rest = blocks > lead_in ? blocks - lead_in : 0;
@@ -586,8 +586,8 @@ static void streams_of_all_lengths(void)
             }
             memset(got, 7, sizeof got);
             memset(sources, 7, sizeof sources);
-            CHECK(ribjasper_mend_stream(all, 3 * size, 3, lead_in, got, size, sources, words, &told) == RIBJASPER_CONVERTED);
-            CHECK(memcmp(got, right, size) == 0 && got[size] == 7 && sources[words] == 7 && told.bytes == size);
+            CHECK(ribjasper_mend_stream(all, 3 * size, 3, lead_in, got, size, sources, words, &result) == RIBJASPER_CONVERTED);
+            CHECK(memcmp(got, right, size) == 0 && got[size] == 7 && sources[words] == 7 && result.bytes == size);
             for (size_t n = 0; n < words; n++)
                 CHECK(sources[n] == n % 3);
         }
@@ -596,29 +596,29 @@ static void streams_of_all_lengths(void)
 static void refusals_of_streams(void)
 {
     uint8_t all[2 * BYTES], blocks[BYTES], kept[BYTES], sources[WORDS];
-    ribjasper_mended_readings told, before;
+    ribjasper_mended_readings result, before;
     make_stream(all);
     make_stream(all + BYTES);
     memset(blocks, 7, sizeof blocks);
     memcpy(kept, blocks, sizeof blocks);
     memset(sources, 7, sizeof sources);
-    memset(&told, 7, sizeof told);
-    memcpy(&before, &told, sizeof told);
-    CHECK(ribjasper_mend_stream(all, 2 * BYTES, 2, 450001, blocks, BYTES, sources, WORDS, &told) == RIBJASPER_USAGE);
-    CHECK(ribjasper_mend_stream(all, 2 * BYTES, 0, 0, blocks, BYTES, sources, WORDS, &told) == RIBJASPER_USAGE);
-    CHECK(ribjasper_mend_stream(all, 2 * BYTES, 255, 0, blocks, BYTES, sources, WORDS, &told) == RIBJASPER_USAGE);
-    CHECK(ribjasper_mend_stream(all, 95, UINT32_MAX, 450001, blocks, 0, NULL, 0, &told) == RIBJASPER_USAGE);
+    memset(&result, 7, sizeof result);
+    memcpy(&before, &result, sizeof result);
+    CHECK(ribjasper_mend_stream(all, 2 * BYTES, 2, 450001, blocks, BYTES, sources, WORDS, &result) == RIBJASPER_USAGE);
+    CHECK(ribjasper_mend_stream(all, 2 * BYTES, 0, 0, blocks, BYTES, sources, WORDS, &result) == RIBJASPER_USAGE);
+    CHECK(ribjasper_mend_stream(all, 2 * BYTES, 255, 0, blocks, BYTES, sources, WORDS, &result) == RIBJASPER_USAGE);
+    CHECK(ribjasper_mend_stream(all, 95, UINT32_MAX, 450001, blocks, 0, NULL, 0, &result) == RIBJASPER_USAGE);
     for (size_t rest = 1; rest < 192; rest++)
-        CHECK(ribjasper_mend_stream(all, 192 + rest, 2, 0, blocks, BYTES, sources, WORDS, &told) == RIBJASPER_TORN);
-    CHECK(ribjasper_mend_stream(all, 96 * 7, 3, 0, blocks, 0, NULL, 0, &told) == RIBJASPER_TORN);
+        CHECK(ribjasper_mend_stream(all, 192 + rest, 2, 0, blocks, BYTES, sources, WORDS, &result) == RIBJASPER_TORN);
+    CHECK(ribjasper_mend_stream(all, 96 * 7, 3, 0, blocks, 0, NULL, 0, &result) == RIBJASPER_TORN);
     for (size_t room = 0; room < BYTES; room++)
-        CHECK(ribjasper_mend_stream(all, 2 * BYTES, 2, 0, blocks, room, sources, WORDS, &told) == RIBJASPER_NO_ROOM);
+        CHECK(ribjasper_mend_stream(all, 2 * BYTES, 2, 0, blocks, room, sources, WORDS, &result) == RIBJASPER_NO_ROOM);
     for (size_t words = 0; words < WORDS; words++)
-        CHECK(ribjasper_mend_stream(all, 2 * BYTES, 2, 0, blocks, BYTES, sources, words, &told) == RIBJASPER_NO_ROOM);
-    CHECK(ribjasper_mend_stream(all, 2 * BYTES, 2, 0, blocks, BYTES, NULL, 0, &told) == RIBJASPER_NO_ROOM);
-    CHECK(memcmp(blocks, kept, sizeof blocks) == 0 && all_are(sources, WORDS, 7) && memcmp(&told, &before, sizeof told) == 0);
-    CHECK(ribjasper_mend_stream(all, 0, 2, 0, blocks, 0, NULL, 0, &told) == RIBJASPER_CONVERTED);
-    CHECK(told.bytes == 0 && told.blocks == 0 && told.none == 0 && memcmp(blocks, kept, sizeof blocks) == 0);
+        CHECK(ribjasper_mend_stream(all, 2 * BYTES, 2, 0, blocks, BYTES, sources, words, &result) == RIBJASPER_NO_ROOM);
+    CHECK(ribjasper_mend_stream(all, 2 * BYTES, 2, 0, blocks, BYTES, NULL, 0, &result) == RIBJASPER_NO_ROOM);
+    CHECK(memcmp(blocks, kept, sizeof blocks) == 0 && all_are(sources, WORDS, 7) && memcmp(&result, &before, sizeof result) == 0);
+    CHECK(ribjasper_mend_stream(all, 0, 2, 0, blocks, 0, NULL, 0, &result) == RIBJASPER_CONVERTED);
+    CHECK(result.bytes == 0 && result.blocks == 0 && result.none == 0 && memcmp(blocks, kept, sizeof blocks) == 0);
 }
 
 int main(void)

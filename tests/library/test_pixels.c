@@ -184,7 +184,7 @@ static int min(int a, int b)
 }
 
 /* The change of a pack, from the header. */
-static ribjasper_change told_of(int32_t touched, int across, int down)
+static ribjasper_change change_of(int32_t touched, int across, int down)
 {
     ribjasper_change change = { 300, 216, 0, 0, 0, 0 };
     int left = 0, top = 0, right = 0, bottom = 0;
@@ -233,17 +233,17 @@ static void changes(void)
 {
     static uint8_t packs[24 * 40];
     ribjasper_player one = RIBJASPER_CLOSED, all = RIBJASPER_CLOSED;
-    ribjasper_change change, told;
+    ribjasper_change change, result;
     uint32_t round, n;
     memset(&change, 9, sizeof change);
-    told = change;
+    result = change;
     CHECK(ribjasper_player_draw_all(&one, packs, 1, &change) == RIBJASPER_REFUSED);
-    CHECK(ribjasper_player_feed_all(&one, packs, 1, &change) == RIBJASPER_REFUSED && is_change(&change, &told));
+    CHECK(ribjasper_player_feed_all(&one, packs, 1, &change) == RIBJASPER_REFUSED && is_change(&change, &result));
     if (ribjasper_player_open(&one) != RIBJASPER_DONE || ribjasper_player_open(&all) != RIBJASPER_DONE)
         return;
     CHECK(ribjasper_pack_change(packs, 6, 0, &change) == RIBJASPER_REFUSED);
     CHECK(ribjasper_pack_change(packs, 0, 12, &change) == RIBJASPER_REFUSED);
-    CHECK(ribjasper_pack_change(packs, 255, 255, &change) == RIBJASPER_REFUSED && is_change(&change, &told));
+    CHECK(ribjasper_pack_change(packs, 255, 255, &change) == RIBJASPER_REFUSED && is_change(&change, &result));
     for (round = 0; round < 1500; round++) {
         uint32_t count = any(40);
         ribjasper_change sum = { 300, 216, 0, 0, 0, 0 };
@@ -253,9 +253,9 @@ static void changes(void)
             any_pack(pack);
             CHECK(ribjasper_player_offsets(&one, &across, &down) == 0);
             CHECK(ribjasper_pack_change(pack, across, down, &change) == RIBJASPER_DONE);
-            told = told_of(ribjasper_pack_touches(pack), across, down);
-            CHECK(is_change(&change, &told));
-            add_change(&sum, &told);
+            result = change_of(ribjasper_pack_touches(pack), across, down);
+            CHECK(is_change(&change, &result));
+            add_change(&sum, &result);
             CHECK(ribjasper_player_draw(&one, pack) == 0);
         }
         CHECK(ribjasper_player_screen(&all, before) == 0 && ribjasper_player_colours(&all, colours) == 0);

@@ -14,14 +14,14 @@ static const char script[] = "# in time\nshow 00:00:03 00:00:03\n\nshow 00:00:10
 
 enum { ROOM = 5 };
 static ribjasper_plan_row rows[ROOM];
-static ribjasper_planned told;
+static ribjasper_planned result;
 
 static int32_t plan(const char *cue, const char *drawings, uint32_t lead_in, uint32_t audio, size_t room)
 {
     memset(rows, 0x5a, sizeof rows);
-    memset(&told, 0x5a, sizeof told);
+    memset(&result, 0x5a, sizeof result);
     return ribjasper_plan((const uint8_t *)cue, strlen(cue), (const uint8_t *)drawings, strlen(drawings), lead_in, audio, rows,
-                          room, &told);
+                          room, &result);
 }
 
 /* Whether all rows from this one on are unchanged. */
@@ -41,33 +41,33 @@ static int is_row(size_t k, uint32_t line, uint32_t ready, uint32_t hold, uint32
            row->first == first && row->late == late;
 }
 
-static int is_told(uint32_t pictures, uint32_t blocks, uint32_t late)
+static int has_counts(uint32_t pictures, uint32_t blocks, uint32_t late)
 {
-    return told.pictures == pictures && told.blocks == blocks && told.late == late && told.why == 0 && told.line == 0 &&
-           told.number == 0;
+    return result.pictures == pictures && result.blocks == blocks && result.late == late && result.why == 0 && result.line == 0 &&
+           result.number == 0;
 }
 
 static int is_refused(uint32_t why, uint32_t line, uint32_t number)
 {
-    return told.pictures == 0 && told.blocks == 0 && told.late == 0 && told.why == why && told.line == line &&
-           told.number == number && untouched(0);
+    return result.pictures == 0 && result.blocks == 0 && result.late == 0 && result.why == why && result.line == line &&
+           result.number == number && untouched(0);
 }
 
 static void rows_of_pictures(void)
 {
     CHECK(plan(sheet, late_script, 0, 100, ROOM) == RIBJASPER_LATE);
-    CHECK(is_told(3, 250, 1));
+    CHECK(has_counts(3, 250, 1));
     CHECK(is_row(0, 2, 2, 3, 4, 1, 0, 1));
     CHECK(is_row(1, 4, 10, 10, 0, 28, 5, 0));
     CHECK(is_row(2, 6, 75, 76, 1, 260, 33, 0));
     CHECK(untouched(3));
     CHECK(plan(sheet, script, 0, 100, 3) == RIBJASPER_PLANNED);
-    CHECK(is_told(3, 250, 0));
+    CHECK(has_counts(3, 250, 0));
     CHECK(is_row(0, 2, 3, 3, 4, 5, 0, 0));
     CHECK(is_row(1, 4, 10, 10, 0, 28, 5, 0));
     CHECK(untouched(3));
     CHECK(plan(sheet, "", 0, 1, 0) == RIBJASPER_PLANNED);
-    CHECK(is_told(0, 151, 0));
+    CHECK(has_counts(0, 151, 0));
     CHECK(untouched(0));
 }
 
@@ -90,9 +90,9 @@ static void refusals(void)
     CHECK(is_refused(RIBJASPER_LEAD_IN_SHORT, 0, 12));
     CHECK(plan(sheet, script, 12, 100, ROOM) == RIBJASPER_PLANNED);
     CHECK(plan(sheet, script, 450001, 100, ROOM) == RIBJASPER_USAGE);
-    CHECK(untouched(0) && told.why == 0x5a5a5a5a);
+    CHECK(untouched(0) && result.why == 0x5a5a5a5a);
     CHECK(plan(sheet, script, 0, 450000, ROOM) == RIBJASPER_USAGE);
-    CHECK(untouched(0) && told.why == 0x5a5a5a5a);
+    CHECK(untouched(0) && result.why == 0x5a5a5a5a);
 }
 
 /* A title that needs more than 256 packs, and texts above 64 MB. */
@@ -107,16 +107,16 @@ static void long_texts(void)
     memcpy(cue + 7 + TITLE, "\"\n", 3);
     strcat(cue, sheet);
     CHECK(plan(cue, script, 12, 100, ROOM) == RIBJASPER_NOT_PLANNED);
-    CHECK(told.why == RIBJASPER_CD_TEXT_TOO_LONG && told.number > 256);
+    CHECK(result.why == RIBJASPER_CD_TEXT_TOO_LONG && result.number > 256);
     CHECK(plan(cue, script, 0, 100, ROOM) == RIBJASPER_PLANNED);
     if (zeros == NULL)
         return;
     memset(zeros, '\n', size);
-    CHECK(ribjasper_plan(zeros, size, zeros, 0, 0, 100, rows, ROOM, &told) == RIBJASPER_NOT_PLANNED);
-    CHECK(told.why == RIBJASPER_TEXT_TOO_LONG && told.line == 0);
-    CHECK(ribjasper_plan((const uint8_t *)sheet, strlen(sheet), zeros, size, 0, 100, rows, ROOM, &told) ==
+    CHECK(ribjasper_plan(zeros, size, zeros, 0, 0, 100, rows, ROOM, &result) == RIBJASPER_NOT_PLANNED);
+    CHECK(result.why == RIBJASPER_TEXT_TOO_LONG && result.line == 0);
+    CHECK(ribjasper_plan((const uint8_t *)sheet, strlen(sheet), zeros, size, 0, 100, rows, ROOM, &result) ==
           RIBJASPER_NOT_PLANNED);
-    CHECK(told.why == RIBJASPER_TEXT_TOO_LONG && told.line == 0);
+    CHECK(result.why == RIBJASPER_TEXT_TOO_LONG && result.line == 0);
     __real_free(zeros);
 }
 
@@ -125,7 +125,7 @@ static void rooms_and_memory(void)
     int32_t answer;
     for (size_t room = 0; room < 3; room++) {
         CHECK(plan(sheet, late_script, 0, 100, room) == RIBJASPER_NO_ROOM);
-        CHECK(is_told(3, 250, 0) && untouched(0));
+        CHECK(has_counts(3, 250, 0) && untouched(0));
     }
     CHECK(held == 0);
     for (long n = 0;; n++) {
@@ -136,7 +136,7 @@ static void rooms_and_memory(void)
         CHECK(held == 0);
         if (answer != RIBJASPER_NO_MEMORY)
             break;
-        CHECK(untouched(0) && told.why == 0x5a5a5a5a);
+        CHECK(untouched(0) && result.why == 0x5a5a5a5a);
     }
     CHECK(answer == RIBJASPER_LATE);
     /* A script is refused even if there is no memory for the sheet. */
@@ -159,7 +159,7 @@ static void torn_scripts(void)
         part[length] = 0;
         answer = plan(sheet, part, 0, 100, ROOM);
         CHECK(answer == RIBJASPER_PLANNED || answer == RIBJASPER_LATE || answer == RIBJASPER_NOT_PLANNED);
-        CHECK(told.pictures <= 3 && untouched(told.pictures));
+        CHECK(result.pictures <= 3 && untouched(result.pictures));
     }
     CHECK(held == 0);
 }
@@ -183,10 +183,10 @@ static int print_plan(char **words)
     uint8_t *cue = read_file(words[1], &sheet_size);
     uint8_t *drawings = read_file(words[2], &script_size);
     int32_t answer = ribjasper_plan(cue, sheet_size, drawings, script_size, (uint32_t)atol(words[3]),
-                                    (uint32_t)atol(words[4]), all, MOST, &told);
-    printf("%d %u %u %u %u %u %u\n", (int)answer, told.pictures, told.blocks, told.late, told.why, told.line, told.number);
+                                    (uint32_t)atol(words[4]), all, MOST, &result);
+    printf("%d %u %u %u %u %u %u\n", (int)answer, result.pictures, result.blocks, result.late, result.why, result.line, result.number);
     if (answer == RIBJASPER_PLANNED || answer == RIBJASPER_LATE)
-        for (uint32_t k = 0; k < told.pictures; k++)
+        for (uint32_t k = 0; k < result.pictures; k++)
             printf("%u %u %u %u %u %u %u %u\n", k, all[k].line, all[k].ready, all[k].hold, all[k].need, all[k].free,
                    all[k].first, all[k].late);
     free(cue);

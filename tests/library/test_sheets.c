@@ -42,12 +42,12 @@ static int is_row(const ribjasper_sheet_row *row, uint8_t track, uint8_t index, 
 static void what_a_sheet_says(void)
 {
     size_t length = strlen(sheet);
-    ribjasper_sheet_told told;
+    ribjasper_sheet_result result;
     memset(rows, 7, sizeof rows);
     memcpy(kept, rows, sizeof rows);
-    CHECK(ribjasper_sheet(bytes_of(sheet), length, rows, ROWS, &told) == RIBJASPER_CONVERTED);
-    CHECK(told.rows == 4 && told.tracks == 2 && told.line == 0 && told.why == 0);
-    CHECK(told.has_catalogue == 1 && memcmp(told.catalogue, "1234567890123", 13) == 0);
+    CHECK(ribjasper_sheet(bytes_of(sheet), length, rows, ROWS, &result) == RIBJASPER_CONVERTED);
+    CHECK(result.rows == 4 && result.tracks == 2 && result.line == 0 && result.why == 0);
+    CHECK(result.has_catalogue == 1 && memcmp(result.catalogue, "1234567890123", 13) == 0);
     CHECK(is_row(rows, 3, 1, 0, 150, 5, 3, "GBABC1234567"));
     CHECK(is_row(rows + 1, 3, 2, 85, 150, 5, 3, "GBABC1234567"));
     CHECK(is_row(rows + 2, 4, 0, 4500, 0, 0, 0, NULL));
@@ -56,12 +56,12 @@ static void what_a_sheet_says(void)
     CHECK(held == 0);
 
     /* A buffer that is just large enough, and one that lacks a row. */
-    CHECK(ribjasper_sheet(bytes_of(sheet), length, rows, 4, &told) == RIBJASPER_CONVERTED);
+    CHECK(ribjasper_sheet(bytes_of(sheet), length, rows, 4, &result) == RIBJASPER_CONVERTED);
     memcpy(kept, rows, sizeof rows);
-    memset(&told, 9, sizeof told);
-    CHECK(ribjasper_sheet(bytes_of(sheet), length, rows + 1, 3, &told) == RIBJASPER_NO_ROOM);
-    CHECK(told.rows == 4 && told.tracks == 2 && told.has_catalogue == 1 && told.line == 0 && told.why == 0);
-    CHECK(ribjasper_sheet(bytes_of(sheet), length, NULL, 0, &told) == RIBJASPER_NO_ROOM && told.rows == 4);
+    memset(&result, 9, sizeof result);
+    CHECK(ribjasper_sheet(bytes_of(sheet), length, rows + 1, 3, &result) == RIBJASPER_NO_ROOM);
+    CHECK(result.rows == 4 && result.tracks == 2 && result.has_catalogue == 1 && result.line == 0 && result.why == 0);
+    CHECK(ribjasper_sheet(bytes_of(sheet), length, NULL, 0, &result) == RIBJASPER_NO_ROOM && result.rows == 4);
     CHECK(memcmp(rows, kept, sizeof rows) == 0);
     CHECK(held == 0);
 }
@@ -123,24 +123,24 @@ static void refused_sheets(void)
     memset(rows, 7, sizeof rows);
     memcpy(kept, rows, sizeof rows);
     for (i = 0; i < sizeof cases / sizeof *cases; i++) {
-        ribjasper_sheet_told told;
-        memset(&told, 9, sizeof told);
-        CHECK(ribjasper_sheet(bytes_of(cases[i].text), strlen(cases[i].text), rows, ROWS, &told) == RIBJASPER_TORN);
-        CHECK(told.line == cases[i].line && told.why == cases[i].why);
-        CHECK(told.rows == 0 && told.tracks == 0 && told.has_catalogue == 0 && told.catalogue[0] == 0);
+        ribjasper_sheet_result result;
+        memset(&result, 9, sizeof result);
+        CHECK(ribjasper_sheet(bytes_of(cases[i].text), strlen(cases[i].text), rows, ROWS, &result) == RIBJASPER_TORN);
+        CHECK(result.line == cases[i].line && result.why == cases[i].why);
+        CHECK(result.rows == 0 && result.tracks == 0 && result.has_catalogue == 0 && result.catalogue[0] == 0);
         CHECK(memcmp(rows, kept, sizeof rows) == 0);
         /* The same if malloc fails. */
-        memset(&told, 9, sizeof told);
+        memset(&result, 9, sizeof result);
         refused = requests;
-        CHECK(ribjasper_sheet(bytes_of(cases[i].text), strlen(cases[i].text), rows, ROWS, &told) == RIBJASPER_TORN);
-        CHECK(told.line == cases[i].line && told.why == cases[i].why);
+        CHECK(ribjasper_sheet(bytes_of(cases[i].text), strlen(cases[i].text), rows, ROWS, &result) == RIBJASPER_TORN);
+        CHECK(result.line == cases[i].line && result.why == cases[i].why);
         refused = requests;
         CHECK(ribjasper_sheet_text(bytes_of(cases[i].text), strlen(cases[i].text), 0, 0, out, 16, &bytes) == RIBJASPER_TORN);
         refused = -1;
     }
     {
-        ribjasper_sheet_told told;
-        CHECK(ribjasper_sheet(NULL, 0, NULL, 0, &told) == RIBJASPER_TORN && told.line == 1 && told.why == 11);
+        ribjasper_sheet_result result;
+        CHECK(ribjasper_sheet(NULL, 0, NULL, 0, &result) == RIBJASPER_TORN && result.line == 1 && result.why == 11);
     }
     CHECK(held == 0);
 }
@@ -150,7 +150,7 @@ static void largest_sheet(void)
 {
     static char text[300000];
     size_t length = (size_t)sprintf(text, "FILE a WAVE\n");
-    ribjasper_sheet_told told;
+    ribjasper_sheet_result result;
     int track, index;
     for (track = 1; track < 100; track++) {
         length += (size_t)sprintf(text + length, "TRACK %02d AUDIO\n", track);
@@ -160,8 +160,8 @@ static void largest_sheet(void)
                                       time / 75 % 60, time % 75);
         }
     }
-    CHECK(ribjasper_sheet(bytes_of(text), length, rows, ROWS, &told) == RIBJASPER_CONVERTED);
-    CHECK(told.rows == RIBJASPER_MOST_SHEET_ROWS && told.tracks == 99);
+    CHECK(ribjasper_sheet(bytes_of(text), length, rows, ROWS, &result) == RIBJASPER_CONVERTED);
+    CHECK(result.rows == RIBJASPER_MOST_SHEET_ROWS && result.tracks == 99);
     for (track = 1; track < 100; track++)
         for (index = 0; index < 100; index++)
             if (!is_row(rows + 100 * (track - 1) + index, (uint8_t)track, (uint8_t)index,
@@ -169,7 +169,7 @@ static void largest_sheet(void)
                 CHECK(0);
                 return;
             }
-    CHECK(ribjasper_sheet(bytes_of(text), length, rows, ROWS - 1, &told) == RIBJASPER_NO_ROOM && told.rows == ROWS);
+    CHECK(ribjasper_sheet(bytes_of(text), length, rows, ROWS - 1, &result) == RIBJASPER_NO_ROOM && result.rows == ROWS);
     CHECK(held == 0);
 }
 
@@ -177,21 +177,21 @@ static void largest_sheet(void)
 static void refused_memory(void)
 {
     size_t length = strlen(sheet);
-    ribjasper_sheet_told told, before;
+    ribjasper_sheet_result result, before;
     uint8_t out[16];
     uint32_t bytes = 99;
     int32_t answer = RIBJASPER_NO_MEMORY;
     long n;
     memset(rows, 7, sizeof rows);
     memcpy(kept, rows, sizeof rows);
-    memset(&told, 9, sizeof told);
-    before = told;
+    memset(&result, 9, sizeof result);
+    before = result;
     memset(out, 7, sizeof out);
     for (n = 0; answer == RIBJASPER_NO_MEMORY; n++) {
-        CHECK(memcmp(rows, kept, sizeof rows) == 0 && memcmp(&told, &before, sizeof told) == 0);
+        CHECK(memcmp(rows, kept, sizeof rows) == 0 && memcmp(&result, &before, sizeof result) == 0);
         requests = 0;
         refused = n;
-        answer = ribjasper_sheet(bytes_of(sheet), length, rows, ROWS, &told);
+        answer = ribjasper_sheet(bytes_of(sheet), length, rows, ROWS, &result);
         CHECK(held == 0);
     }
     CHECK(answer == RIBJASPER_CONVERTED && n > 3);
@@ -212,16 +212,16 @@ static void too_long(void)
 {
     size_t length = (size_t)RIBJASPER_MOST_TEXT + 1;
     uint8_t *text = (uint8_t *)malloc(length);
-    ribjasper_sheet_told told;
+    ribjasper_sheet_result result;
     uint8_t out[1];
     uint32_t bytes;
     if (text == NULL)
         return;
     memset(text, '\n', length);
-    memset(&told, 9, sizeof told);
-    CHECK(ribjasper_sheet(text, length, rows, ROWS, &told) == RIBJASPER_USAGE && told.rows == 0x09090909);
+    memset(&result, 9, sizeof result);
+    CHECK(ribjasper_sheet(text, length, rows, ROWS, &result) == RIBJASPER_USAGE && result.rows == 0x09090909);
     CHECK(ribjasper_sheet_text(text, length, 0, 0, out, 1, &bytes) == RIBJASPER_USAGE);
-    CHECK(ribjasper_sheet(text, length - 1, rows, ROWS, &told) == RIBJASPER_TORN && told.why == 11);
+    CHECK(ribjasper_sheet(text, length - 1, rows, ROWS, &result) == RIBJASPER_TORN && result.why == 11);
     free(text);
 }
 

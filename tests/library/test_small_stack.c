@@ -165,19 +165,19 @@ static void single(void)
 
 static void convert(void)
 {
-    ribjasper_converted told;
-    answer = ribjasper_convert(worn, sizeof worn, RIBJASPER_RAW, 0, packs, sizeof packs, &told);
-    answer = ribjasper_convert(worn, sizeof worn, RIBJASPER_PACKS, 0, packs, sizeof packs, &told);
+    ribjasper_converted result;
+    answer = ribjasper_convert(worn, sizeof worn, RIBJASPER_RAW, 0, packs, sizeof packs, &result);
+    answer = ribjasper_convert(worn, sizeof worn, RIBJASPER_PACKS, 0, packs, sizeof packs, &result);
 }
 
 static void mend(void)
 {
     static ribjasper_mended_readings of_any;
-    ribjasper_mended told;
+    ribjasper_mended result;
     answer = ribjasper_mend_readings(worn, sizeof worn, 2, 0, packs, sizeof packs, pixels, sizeof pixels, &of_any);
     answer = ribjasper_mend_stream(worn, sizeof worn, 2, 0, packs, sizeof packs, pixels, sizeof pixels, &of_any);
-    answer = ribjasper_mend(worn, sizeof worn, stream, sizeof stream, 0, packs, sizeof packs, &told);
-    answer = ribjasper_mend(idle, sizeof idle, worn, sizeof worn, 0, packs, sizeof packs, &told);
+    answer = ribjasper_mend(worn, sizeof worn, stream, sizeof stream, 0, packs, sizeof packs, &result);
+    answer = ribjasper_mend(idle, sizeof idle, worn, sizeof worn, 0, packs, sizeof packs, &result);
 }
 
 /* The greatest number of readings, one of them without R to W. */
@@ -192,34 +192,34 @@ static void mend_readings(void)
 
 static void survey(void)
 {
-    ribjasper_surveyed told;
-    answer = ribjasper_survey(worn, sizeof worn, RIBJASPER_RAW, 4, rows, BLOCKS, &told);
-    answer = ribjasper_survey(worn, sizeof worn, RIBJASPER_PACKS, 4, rows, BLOCKS, &told);
+    ribjasper_surveyed result;
+    answer = ribjasper_survey(worn, sizeof worn, RIBJASPER_RAW, 4, rows, BLOCKS, &result);
+    answer = ribjasper_survey(worn, sizeof worn, RIBJASPER_PACKS, 4, rows, BLOCKS, &result);
 }
 
 static void texts(void)
 {
-    ribjasper_listed told;
-    answer = ribjasper_texts(lead_in, sizeof lead_in, RIBJASPER_RAW, BLOCKS, packs, sizeof packs, &told);
-    if (answer == RIBJASPER_CONVERTED && told.bytes < 60)
+    ribjasper_listed result;
+    answer = ribjasper_texts(lead_in, sizeof lead_in, RIBJASPER_RAW, BLOCKS, packs, sizeof packs, &result);
+    if (answer == RIBJASPER_CONVERTED && result.bytes < 60)
         answer = RIBJASPER_NO_ROOM;
 }
 
 static void planned(void)
 {
-    ribjasper_planned told;
+    ribjasper_planned result;
     const uint8_t *lines = (const uint8_t *)sheet;
-    answer = ribjasper_plan(lines, sizeof sheet - 1, (const uint8_t *)script, sizeof script - 1, 300, 9000, plan, 16, &told);
+    answer = ribjasper_plan(lines, sizeof sheet - 1, (const uint8_t *)script, sizeof script - 1, 300, 9000, plan, 16, &result);
     answer = ribjasper_plan(lines, sizeof sheet - 1, (const uint8_t *)refused, sizeof refused - 1, 300, 9000, plan, 16,
-                            &told);
+                            &result);
 }
 
 static void read_sheet(void)
 {
-    ribjasper_sheet_told told;
+    ribjasper_sheet_result result;
     uint32_t bytes;
     const uint8_t *lines = (const uint8_t *)sheet;
-    answer = ribjasper_sheet(lines, sizeof sheet - 1, sheet_rows, 4, &told);
+    answer = ribjasper_sheet(lines, sizeof sheet - 1, sheet_rows, 4, &result);
     if (answer == RIBJASPER_CONVERTED)
         answer = ribjasper_sheet_text(lines, sizeof sheet - 1, RIBJASPER_TITLE, 1, pixels, 100, &bytes);
 }

@@ -33,7 +33,7 @@ fi
 try() {
     bin/ribjasper "$@" <"$work/authored" >"$work/ample" || true
     (ulimit -s 64 && exec bin/ribjasper "$@") <"$work/authored" >"$work/small" || true
-    [ -s "$work/ample" ] && cmp "$work/ample" "$work/small" || { echo "small_stack: $1 wants more than 64 KiB"; exit 1; }
+    [ -s "$work/ample" ] && cmp "$work/ample" "$work/small" || { echo "small_stack: $1 needs more than 64 KiB"; exit 1; }
 }
 try convert --lead-in 300
 try check --lead-in 300

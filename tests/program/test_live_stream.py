@@ -35,7 +35,7 @@ def stream(size: int) -> bytes:
     return random.Random(96).randbytes(size)
 
 
-def told_of(words: list[str], given: bytes) -> bytes:
+def result_of(words: list[str], given: bytes) -> bytes:
     """The output of a command for an input that ends."""
     return subprocess.run([PROGRAM, *words], input=given, stdout=subprocess.PIPE, stderr=subprocess.DEVNULL).stdout
 
@@ -89,7 +89,7 @@ class LiveStream(unittest.TestCase):
                 for end in (count * unit - unit // 2, count * unit):
                     feeder.write(whole[sent:end])
                     sent = end
-                    want = told_of(words, whole[: sent - sent % unit])
+                    want = result_of(words, whole[: sent - sent % unit])
                     seen += taken(process.stdout, len(want) - len(seen))
                     self.assertEqual(len(seen), len(want), f"{words} after {sent} bytes")
                     self.assertEqual(seen, want, f"{words} after {sent} bytes")
@@ -116,7 +116,7 @@ class LiveStream(unittest.TestCase):
                 with open(name, "wb", buffering=0) as feed:
                     whole = stream(BLOCK * 20)
                     feed.write(whole)
-                    want = told_of(words, whole)
+                    want = result_of(words, whole)
                     self.assertTrue(want)
                     self.assertEqual(taken(process.stdout, len(want)), want)
 

@@ -1,10 +1,12 @@
 #!/usr/bin/env python3
-"""What programs that are linked with the library rest on: the names of its calls, the numbers of the header, how its structs
-lie in memory, the name that programs ask for at run time and the version of its symbols. tools/check/abi.txt lists them, each with
-the version that brought it. Fails where a line of the list no longer holds, or where something is not listed.
+"""Checks the binary interface of the library against tools/check/abi.txt.
 
-    check_abi.py            compares the header, and lib/libribjasper.so.0 where it is there, with the list
-    check_abi.py --write    adds to the list what is new; it takes nothing off it"""
+Programs that are linked with the library depend on the names of its calls, the constants of the header, the layout of its
+structs, the soname and the versions of the symbols. The list has a line for each, with the version that added it. The check
+fails if a line of the list is no longer true, or if the list lacks something.
+
+    check_abi.py            compares the list with the header, and with lib/libribjasper.so.0 if it exists
+    check_abi.py --write    adds missing lines to the list; it never removes a line"""
 import argparse
 import re
 import shutil
@@ -22,6 +24,8 @@ LIST = TOP / "tools" / "check" / "abi.txt"
 COMMENT = re.compile(r"/\*.*?\*/", re.S)
 STRUCT = re.compile(r"typedef struct (\w+) \{(.*?)\} \1;", re.S)
 ENUM = re.compile(r"typedef enum \w+ \{(.*?)\}", re.S)
+# An earlier name of a struct.
+ALIAS = re.compile(r"^#define (ribjasper_\w+) (ribjasper_\w+)\s*$", re.M)
 FIELD = re.compile(r"(\w+)(?:\[\w+\])?;")
 CALL = re.compile(r"\b(ribjasper_\w+)\(")
 NUMBER = re.compile(r"^#define (RIBJASPER_[A-Z0-9_]+) (?:\(?-?\d|0x)", re.M)
@@ -36,7 +40,9 @@ def questions(header: str) -> Iterator[str]:
         numbers += re.findall(r"(RIBJASPER_\w+) =", values)
     for name in numbers:
         yield f'printf("number {name} %lld\\n", (long long)({name}));'
-    for name, body in STRUCT.findall(header):
+    structs = dict(STRUCT.findall(header))
+    structs |= {old: structs[new] for old, new in ALIAS.findall(header)}
+    for name, body in structs.items():
         yield f'printf("struct {name} size %zu\\n", sizeof({name}));'
         for field in FIELD.findall(re.sub(r"struct \{.*?\}", "", body, flags=re.S)):
             yield (f'printf("field {name} {field} at %zu size %zu\\n", offsetof({name}, {field}), '
@@ -46,14 +52,14 @@ def questions(header: str) -> Iterator[str]:
 def of_header() -> list[str]:
     """The declarations of the header, as lines of the list."""
     header = COMMENT.sub("", HEADER.read_text())
-    told = sorted({f"call {name}" for name in CALL.findall(header)})
+    calls = sorted({f"call {name}" for name in CALL.findall(header)})
     with tempfile.TemporaryDirectory() as folder:
-        source, program = Path(folder) / "told.c", Path(folder) / "told"
+        source, program = Path(folder) / "abi.c", Path(folder) / "abi"
         lines = "\n    ".join(questions(header))
         source.write_text(f'#include "ribjasper.h"\n#include <stddef.h>\n#include <stdio.h>\nint main(void)\n{{\n    {lines}\n'
                           "    return 0;\n}\n")
         subprocess.run(["cc", "-I", HEADER.parent, source, "-o", program], check=True)
-        return told + subprocess.run([program], check=True, capture_output=True, text=True).stdout.splitlines()
+        return calls + subprocess.run([program], check=True, capture_output=True, text=True).stdout.splitlines()
 
 
 def of_library() -> list[str]:
@@ -71,28 +77,28 @@ def main() -> int:
     parser.add_argument("--write", action="store_true", help="adds to the list what is new")
     write = parser.parse_args().write
     if not all(map(shutil.which, ("cc", "nm", "readelf"))):
-        print("check_abi: skipped, there is no C compiler")
+        print("check_abi: skipped, since there is no C compiler")
         return 0
-    told = of_header()
+    found = of_header()
     if LIBRARY.exists():
-        told += of_library()
+        found += of_library()
     else:
-        print("check_abi: skipped in part, there is no lib/libribjasper.so.0 (make library)")
+        print("check_abi: skipped in part, since lib/libribjasper.so.0 is not built (make library)")
     listed = dict(line.split(": ", 1)[::-1] for line in LIST.read_text().splitlines()) if LIST.exists() else {}
-    kinds = {line.split()[0] for line in told}
-    gone = [line for line in listed if line not in told and line.split()[0] in kinds]
-    new = [line for line in told if line not in listed]
+    kinds = {line.split()[0] for line in found}
+    gone = [line for line in listed if line not in found and line.split()[0] in kinds]
+    new = [line for line in found if line not in listed]
     for line in gone:
-        print(f"check_abi: programs rest on this, and it does not hold: {line} (since {listed[line]})", file=sys.stderr)
+        print(f"check_abi: programs depend on this, and it is no longer true: {line} (since {listed[line]})", file=sys.stderr)
     if write and not gone:
         version = (TOP / "VERSION").read_text().strip()
         listed.update(dict.fromkeys(new, version))
         LIST.write_text("".join(f"{since}: {line}\n" for line, since in listed.items()))
         new = []
     for line in new:
-        print(f"check_abi: tools/check/abi.txt leaves out: {line}", file=sys.stderr)
+        print(f"check_abi: tools/check/abi.txt lacks: {line}", file=sys.stderr)
     if not gone and not new:
-        print(f"check_abi: {len(told)} names, numbers and places in structs are as programs have them")
+        print(f"check_abi: {len(found)} names, constants and offsets in structs are as listed")
     return 1 if gone or new else 0
 
 

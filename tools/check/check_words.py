@@ -43,7 +43,7 @@ WORDS = (
     Word(r"stands?\b", "is"),
     Word(r"stood\b", "was"),
     Word(r"tells?\b", "reports, prints"),
-    Word(r"told\b", "reported, printed", ("docs/PROVED.md",)),
+    Word(r"told\b", "reported, printed"),
     Word(r"(comes?|came) (out|back)\b", "is recovered, is the result"),
     Word(r"gives? back\b", "recovers, returns"),
     Word(r"gave back\b", "recovered, returned"),

@@ -153,7 +153,6 @@ The parts IV to IX use further signs and words:
 | `a ↔ b` | a if and only if b |
 | put | written to an output |
 | taken | read from an input |
-| told | reported |
 | whole (of a pack) | with its last symbol read; this symbol is seven slots after the slot in which the pack begins |
 | stand (of a picture) | be shown by the screen |
 | framing | the P bits, the Q frames and the text packs of a stream |

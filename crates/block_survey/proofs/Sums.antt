@@ -25,7 +25,7 @@ use Rattle.q_channel.specs.declared.frame.QFault.TheVariants.{BadCrc, BadField}
 use Rattle.stream_stages.specs.Check.{has_wrong, stream_lines, wrong_lines, pack_count_lines, frame_count_lines, found_passes, is_idle, is_graphics, is_unknown, is_foreign, check_text, IsCheckListed}
 use Rattle.stream_stages.proofs.Slots.{Sized, sized_drop, symbols_small, length-all_symbols}
 use Rattle.stream_stages.proofs.Conversion.{units_sized, blocks_sized}
-use Rattle.block_survey.specs.Rows.{kind_told, row_of_block, ended_words, survey_rows, tells_frame, tells_refusal, AddUpTo}
+use Rattle.block_survey.specs.Rows.{row_kind, row_of_block, ended_words, survey_rows, is_frame_row, is_refusal_row, AddUpTo}
 use Rattle.block_survey.specs.declared.surveying.BlockRow.{BlockRow}
 use Rattle.block_survey.proofs.EndedWords.{length-blocks}
 
@@ -153,7 +153,7 @@ module _ (form : Form) (lead_in : ℕ) (bytes : List ℕ) where
 
 -- ---- frames
 
-frame_kinds : (reading : Result QFrame QFault) → nat_le (kind_told (Some reading)) 7 ≡ is_ok reading
+frame_kinds : (reading : Result QFrame QFault) → nat_le (row_kind (Some reading)) 7 ≡ is_ok reading
 frame_kinds (Ok (Program control track index time absolute)) = refl
 frame_kinds (Ok (Toc control (Track number start) time)) = refl
 frame_kinds (Ok (Toc control (First track kind) time)) = refl
@@ -165,7 +165,7 @@ frame_kinds (Ok (Other control adr rest)) = refl
 frame_kinds (Err (BadField bit)) = refl
 frame_kinds (Err BadCrc) = refl
 
-refusal_kinds : (reading : Result QFrame QFault) → nat_le 254 (kind_told (Some reading)) ≡ is_err reading
+refusal_kinds : (reading : Result QFrame QFault) → nat_le 254 (row_kind (Some reading)) ≡ is_err reading
 refusal_kinds (Ok (Program control track index time absolute)) = refl
 refusal_kinds (Ok (Toc control (Track number start) time)) = refl
 refusal_kinds (Ok (Toc control (First track kind) time)) = refl
@@ -201,48 +201,50 @@ readings_by_number blocks =
 abbrev CountsFrames : (BlockRow → Bool) → (Result QFrame QFault → Bool) → Form → ℕ → List ℕ
     → List (Result QFrame QFault)
     → Type 0
-CountsFrames told test form lead_in bytes readings =
+CountsFrames reported test form lead_in bytes readings =
     count_by test readings
-    ≡ count_by told (map (row_of_block form lead_in bytes) (below (length (blocks_of form bytes))))
+    ≡ count_by reported (map (row_of_block form lead_in bytes) (below (length (blocks_of form bytes))))
 
-by_blocks : (told : BlockRow → Bool) (test : Result QFrame QFault → Bool) (form : Form) (lead_in : ℕ)
+by_blocks : (reported : BlockRow → Bool) (test : Result QFrame QFault → Bool) (form : Form) (lead_in : ℕ)
     (bytes : List ℕ) (readings : List (Result QFrame QFault))
     → ((b : ℕ)
-    → told (row_of_block form lead_in bytes b) ≡ test (reading_at (get_or (blocks_of form bytes) b [])))
-    → AreQReadings (blocks_of form bytes) readings → CountsFrames told test form lead_in bytes readings
-by_blocks told test form lead_in bytes readings same are =
+    → reported (row_of_block form lead_in bytes b) ≡ test (reading_at (get_or (blocks_of form bytes) b [])))
+    → AreQReadings (blocks_of form bytes) readings → CountsFrames reported test form lead_in bytes readings
+by_blocks reported test form lead_in bytes readings same are =
     let blocks : List (List ℕ) = blocks_of form bytes in
     ap (count_by test)
     (readings_are blocks (sized form lead_in bytes) readings are ∙ readings_by_number blocks)
-    ∙ sym (same_tests told test (row_of_block form lead_in bytes) (λ b. reading_at (get_or blocks b [])) same
+    ∙ sym
+    (same_tests reported test (row_of_block form lead_in bytes) (λ b. reading_at (get_or blocks b [])) same
     0 (length blocks))
 
-frames_told : (form : Form) (lead_in : ℕ) (bytes : List ℕ) (readings : List (Result QFrame QFault))
+frames_reported : (form : Form) (lead_in : ℕ) (bytes : List ℕ) (readings : List (Result QFrame QFault))
     → AreQReadings (q_blocks form bytes) readings
-    → CountsFrames tells_frame is_ok form lead_in bytes readings
-frames_told Raw lead_in bytes readings are =
-    by_blocks tells_frame is_ok Raw lead_in bytes readings
+    → CountsFrames is_frame_row is_ok form lead_in bytes readings
+frames_reported Raw lead_in bytes readings are =
+    by_blocks is_frame_row is_ok Raw lead_in bytes readings
     (λ b. frame_kinds (reading_at (get_or (blocks_of Raw bytes) b []))) are
-frames_told Sector lead_in bytes readings are =
-    by_blocks tells_frame is_ok Sector lead_in bytes readings
+frames_reported Sector lead_in bytes readings are =
+    by_blocks is_frame_row is_ok Sector lead_in bytes readings
     (λ b. frame_kinds (reading_at (get_or (blocks_of Sector bytes) b []))) are
-frames_told Cooked lead_in bytes readings are =
+frames_reported Cooked lead_in bytes readings are =
     ap (count_by is_ok) are
     ∙ sym
-    (no_tests tells_frame (row_of_block Cooked lead_in bytes) (λ b. refl) 0 (length (blocks_of Cooked bytes)))
+    (no_tests is_frame_row (row_of_block Cooked lead_in bytes) (λ b. refl) 0
+    (length (blocks_of Cooked bytes)))
 
-refusals_told : (form : Form) (lead_in : ℕ) (bytes : List ℕ) (readings : List (Result QFrame QFault))
+refusals_reported : (form : Form) (lead_in : ℕ) (bytes : List ℕ) (readings : List (Result QFrame QFault))
     → AreQReadings (q_blocks form bytes) readings
-    → CountsFrames tells_refusal is_err form lead_in bytes readings
-refusals_told Raw lead_in bytes readings are =
-    by_blocks tells_refusal is_err Raw lead_in bytes readings
+    → CountsFrames is_refusal_row is_err form lead_in bytes readings
+refusals_reported Raw lead_in bytes readings are =
+    by_blocks is_refusal_row is_err Raw lead_in bytes readings
     (λ b. refusal_kinds (reading_at (get_or (blocks_of Raw bytes) b []))) are
-refusals_told Sector lead_in bytes readings are =
-    by_blocks tells_refusal is_err Sector lead_in bytes readings
+refusals_reported Sector lead_in bytes readings are =
+    by_blocks is_refusal_row is_err Sector lead_in bytes readings
     (λ b. refusal_kinds (reading_at (get_or (blocks_of Sector bytes) b []))) are
-refusals_told Cooked lead_in bytes readings are =
+refusals_reported Cooked lead_in bytes readings are =
     ap (count_by is_err) are
-    ∙ sym (no_tests tells_refusal (row_of_block Cooked lead_in bytes) (λ b. refl) 0
+    ∙ sym (no_tests is_refusal_row (row_of_block Cooked lead_in bytes) (λ b. refl) 0
     (length (blocks_of Cooked bytes)))
 
 -- ---- the lines
@@ -291,11 +293,11 @@ add_up form lead_in bytes text bad listed =
     bad_words
     ∙ sym (sums form lead_in bytes (λ row. row.bad) (λ w. is_none (finding w)) (λ b. refl) n)
     ∙ ap (sum_by (λ (row : BlockRow). row.bad)) rows in
-    let good : count_by is_ok listed.readings ≡ count_by tells_frame (survey_rows form lead_in bytes) =
-    frames_told form lead_in bytes listed.readings listed.read ∙ ap (count_by tells_frame) rows in
-    let refused : count_by is_err listed.readings ≡ count_by tells_refusal
+    let good : count_by is_ok listed.readings ≡ count_by is_frame_row (survey_rows form lead_in bytes) =
+    frames_reported form lead_in bytes listed.readings listed.read ∙ ap (count_by is_frame_row) rows in
+    let refused : count_by is_err listed.readings ≡ count_by is_refusal_row
     (survey_rows form lead_in bytes) =
-    refusals_told form lead_in bytes listed.readings listed.read ∙ ap (count_by tells_refusal) rows in
+    refusals_reported form lead_in bytes listed.readings listed.read ∙ ap (count_by is_refusal_row) rows in
     record {
       before = stream_lines (min lead_in n) (n - lead_in) (length words);
       between =

@@ -30,21 +30,21 @@ reading_in Sector block = Some (reading_of (q_bits block))
 reading_in Cooked block = None
 
 -- the number of a frame's kind, or why there is none: no frame is read, a field is out of range, or the check is wrong
-abbrev pub kind_told : Option (Result QFrame QFault) → ℕ
-kind_told (Some (Ok frame)) = (plain_of frame).kind
-kind_told None = 253
-kind_told (Some (Err (BadField bit))) = 254
-kind_told (Some (Err BadCrc)) = 255
+abbrev pub row_kind : Option (Result QFrame QFault) → ℕ
+row_kind (Some (Ok frame)) = (plain_of frame).kind
+row_kind None = 253
+row_kind (Some (Err (BadField bit))) = 254
+row_kind (Some (Err BadCrc)) = 255
 
 -- the absolute time of a frame of the program area
-abbrev pub time_told : Option (Result QFrame QFault) → ℕ
-time_told (Some (Ok (Program control track index time absolute))) = absolute
-time_told _ = no_time
+abbrev pub row_time : Option (Result QFrame QFault) → ℕ
+row_time (Some (Ok (Program control track index time absolute))) = absolute
+row_time _ = no_time
 
 -- the fields of a frame, or zeros if there is no frame
-abbrev pub fields_told : Option (Result QFrame QFault) → PlainFrame
-fields_told (Some (Ok frame)) = plain_of frame
-fields_told _ = plain_kind 0 0
+abbrev pub row_fields : Option (Result QFrame QFault) → PlainFrame
+row_fields (Some (Ok frame)) = plain_of frame
+row_fields _ = plain_kind 0 0
 
 -- the number of these words with n wrong symbols
 abbrev pub wrong_count : ℕ → List (List ℕ) → ℕ
@@ -57,14 +57,14 @@ bad_words words = count_by (λ word. is_none (finding word)) words
 -- the row of a block, with the words that end with it
 abbrev pub row_with : Form → List (List ℕ) → List ℕ → BlockRow
 row_with form words block = record {
-  absolute = time_told (reading_in form block);
+  absolute = row_time (reading_in form block);
   clean = wrong_count 0 words;
   one = wrong_count 1 words;
   two = wrong_count 2 words;
   bad = bad_words words;
-  q = kind_told (reading_in form block);
-  track = (fields_told (reading_in form block)).track;
-  index = (fields_told (reading_in form block)).index;
+  q = row_kind (reading_in form block);
+  track = (row_fields (reading_in form block)).track;
+  index = (row_fields (reading_in form block)).index;
   empty = if list_all (λ byte. byte == 0) block then 1 else 0;
 }
 
@@ -109,12 +109,12 @@ marked_found s word found = record {
 }
 
 -- whether a row has a frame
-abbrev pub tells_frame : BlockRow → Bool
-tells_frame row = nat_le row.q 7
+abbrev pub is_frame_row : BlockRow → Bool
+is_frame_row row = nat_le row.q 7
 
 -- whether a row has a refused frame
-abbrev pub tells_refusal : BlockRow → Bool
-tells_refusal row = nat_le 254 row.q
+abbrev pub is_refusal_row : BlockRow → Bool
+is_refusal_row row = nat_le 254 row.q
 
 -- These are lines of `check`. Their counts of wrong symbols and of frames are the sums of rows. The lines before them count
 -- the blocks and words, and the lines between them describe the packs.
@@ -124,5 +124,5 @@ pub record AddUpTo (rows : List BlockRow) (text : List ℕ) (bad : ℕ) : Type 0
   pub text_is : text ≡ before
       ++ (wrong_lines (sum_by (λ row. row.clean) rows) (sum_by (λ row. row.one) rows)
       (sum_by (λ row. row.two) rows) (sum_by (λ row. row.bad) rows)
-      ++ (between ++ frame_count_lines (count_by tells_frame rows) (count_by tells_refusal rows)))
+      ++ (between ++ frame_count_lines (count_by is_frame_row rows) (count_by is_refusal_row rows)))
   pub bad_is : bad ≡ sum_by (λ row. row.bad) rows

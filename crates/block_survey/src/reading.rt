@@ -1,7 +1,7 @@
 // The fields of a row for the Q channel of a block.
 ghost use Rattle.std.specs.Prelude.{◌≡◌, Some, Ok};
 ghost use Rattle.q_channel.specs.declared.frame.QFrame.TheVariants.{Toc};
-ghost use Rattle.block_survey.specs.Rows.{fields_told, kind_told, no_time, reading_in, time_told};
+ghost use Rattle.block_survey.specs.Rows.{row_fields, row_kind, no_time, reading_in, row_time};
 ghost use Rattle.block_survey.specs.Plain.{plain_of};
 
 use crate::plain::kinds;
@@ -61,7 +61,7 @@ impl FrameMark {
         ensures kind { result.kind ≡ (plain_of frame.now).kind }
         ensures track { result.track ≡ (plain_of frame.now).track }
         ensures index { result.index ≡ (plain_of frame.now).index }
-        ensures absolute { result.absolute ≡ time_told (Some (Ok frame.now)) }
+        ensures absolute { result.absolute ≡ row_time (Some (Ok frame.now)) }
     {
         match frame {
             QFrame::Program {
@@ -98,10 +98,10 @@ impl FrameMark {
 
     /// The fields for a block of a stream of this form.
     pub(crate) fn of_block(form: Form, block: &[u8; BLOCK_BYTES]) -> FrameMark
-        ensures kind { result.kind ≡ kind_told (reading_in form block.now) }
-        ensures track { result.track ≡ (fields_told (reading_in form block.now)).track }
-        ensures index { result.index ≡ (fields_told (reading_in form block.now)).index }
-        ensures absolute { result.absolute ≡ time_told (reading_in form block.now) }
+        ensures kind { result.kind ≡ row_kind (reading_in form block.now) }
+        ensures track { result.track ≡ (row_fields (reading_in form block.now)).track }
+        ensures index { result.index ≡ (row_fields (reading_in form block.now)).index }
+        ensures absolute { result.absolute ≡ row_time (reading_in form block.now) }
     {
         match form {
             Form::Raw | Form::Sector => FrameMark::read(block),
@@ -111,10 +111,10 @@ impl FrameMark {
 
     #[inline]
     fn read(block: &[u8; BLOCK_BYTES]) -> FrameMark
-        ensures kind { result.kind ≡ kind_told (reading_in Form.Raw block.now) }
-        ensures track { result.track ≡ (fields_told (reading_in Form.Raw block.now)).track }
-        ensures index { result.index ≡ (fields_told (reading_in Form.Raw block.now)).index }
-        ensures absolute { result.absolute ≡ time_told (reading_in Form.Raw block.now) }
+        ensures kind { result.kind ≡ row_kind (reading_in Form.Raw block.now) }
+        ensures track { result.track ≡ (row_fields (reading_in Form.Raw block.now)).track }
+        ensures index { result.index ≡ (row_fields (reading_in Form.Raw block.now)).index }
+        ensures absolute { result.absolute ≡ row_time (reading_in Form.Raw block.now) }
     {
         match decode(&Block::from_bytes(block).q_frame()) {
             Ok(frame) => FrameMark::of(&frame),

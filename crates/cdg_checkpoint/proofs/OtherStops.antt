@@ -3,7 +3,7 @@ use Rattle.std.proofs.Common.{◌≡◌, ◌≢◌, ℕ, ◌*◌, ◌<◌, ◌�
 use Rattle.std.specs.Prelude.{Option, Some, None, Result, Ok, Err, IfSome, IsOk, IsErr, nat_lt, ◌==◌, ◌%◌, ◌/◌}
 use Rattle.cdg_io.specs.Causes.{Count}
 use Rattle.cdg_io.specs.Change.{Input, Passed}
-use Rattle.cdg_io.specs.Pump.{IsUnlessFault, TellsEndOf, answer_of}
+use Rattle.cdg_io.specs.Pump.{IsUnlessFault, ReportsEndOf, answer_of}
 use Rattle.cdg_io.specs.declared.pumping.Pumped.{Pumped}
 use Rattle.cdg_io.specs.declared.pumping.PumpStop.{PumpStop}
 use Rattle.cdg_io.specs.declared.pumping.PumpStop.TheVariants as pump_stop
@@ -42,11 +42,11 @@ pub long_no_read : (stop : PumpStop) → stop ≡ pump_stop.TooLong → pump_sto
 long_no_read stop is = λ e. (cc)
 
 -- how a known stop reports the end of the input
-pub told_by : (stop other : PumpStop) (before now : Count) → pump_stopped stop ≡ Err other
-    → TellsEndOf (Err stop) before now
-    → TellsEndOf (Err other) before now
-told_by stop other before now is told =
-    subst (λ (r : Result Pumped PumpStop). TellsEndOf r before now) is told
+pub reported_by : (stop other : PumpStop) (before now : Count) → pump_stopped stop ≡ Err other
+    → ReportsEndOf (Err stop) before now
+    → ReportsEndOf (Err other) before now
+reported_by stop other before now is reported =
+    subst (λ (r : Result Pumped PumpStop). ReportsEndOf r before now) is reported
 
 -- ---- The answer by the length of the rest, if a fault occurred or the rest is too long.
 
@@ -175,11 +175,11 @@ reads_on first result file now kept other reads = subst (λ f. ReadsSaved first 
   most = reads.most;
   taken = λ e. reads.taken (accepted_no_stop tt FirstFault);
   end = λ e. reads.end (accepted_no_stop tt FirstFault);
-  told = λ e. reads.told (accepted_no_stop tt FirstFault);
+  reported = λ e. reads.reported (accepted_no_stop tt FirstFault);
   goes_on = λ e. reads.goes_on (accepted_no_stop tt FirstFault);
   cut = λ e. absurd (other e);
   kept = λ e. absurd (other e);
-  not_told = λ e. absurd (other e);
+  not_reported = λ e. absurd (other e);
 })
 
 pub reads_stopped : (first : Input) (stop : ResumeStop) (file : List ℕ)
@@ -189,9 +189,9 @@ reads_stopped first stop file reads = record {
   most = reads.most;
   taken = λ other. reads.taken (other_stop stop FirstFault other);
   end = λ other. reads.end (other_stop stop FirstFault other);
-  told = λ other. reads.told (other_stop stop FirstFault other);
+  reported = λ other. reads.reported (other_stop stop FirstFault other);
   goes_on = λ other. reads.goes_on (other_stop stop FirstFault other);
   cut = λ e. reads.cut (same_stop stop FirstFault e);
   kept = λ e. reads.kept (same_stop stop FirstFault e);
-  not_told = λ e. reads.not_told (same_stop stop FirstFault e);
+  not_reported = λ e. reads.not_reported (same_stop stop FirstFault e);
 }

@@ -2,8 +2,8 @@
 use Rattle.std.specs.Prelude.{◌≡◌, ◌≢◌, ℕ, ◌+◌, ◌-◌, ◌*◌, ◌/◌, ◌%◌, ◌<◌, ◌≤◌, ⊤, Bool, true, false, List, [], ◌++◌, length, map, nat_lt, if◌then◌else◌, take, drop, min, slice_index_or, Option, None, Result, Ok, Err, IfOk}
 use Rattle.std.specs.List.{range_with_len}
 use Rattle.std.specs.Io.KnownBytes.{Appends, Consumes, IsAtEnd}
-use Rattle.cdg_io.specs.Causes.{Count, RoseOnce, TellsFault}
-use Rattle.cdg_io.specs.Reads.{ToldUnless}
+use Rattle.cdg_io.specs.Causes.{Count, RoseOnce, ReportsFault}
+use Rattle.cdg_io.specs.Reads.{EndReportedUnless}
 use Rattle.cdg_io.specs.Change.{Bytes, Change, Input, Passed}
 use Rattle.cdg_io.specs.Moves.{AppendsPrefix, ConsumesBelow}
 use Rattle.rw_code.specs.Finding.{IsFinding}
@@ -75,12 +75,13 @@ pub record ReadsSaved {T : Type 0} (saved : Input) (result : Result T ResumeStop
   pub most : length file ≤ file_size + 1
   pub taken : result ≢ Err FirstFault → Consumes saved.left.before saved.left.after file
   pub end : result ≢ Err FirstFault → length file ≤ file_size → IsAtEnd saved.left.after
-  pub told : result ≢ Err FirstFault → length file ≤ file_size → RoseOnce saved.ends.before saved.ends.after
+  pub reported : result ≢ Err FirstFault → length file ≤ file_size
+      → RoseOnce saved.ends.before saved.ends.after
   pub goes_on : result ≢ Err FirstFault → file_size < length file → saved.ends.after ≡ saved.ends.before
   pub cut : result ≡ Err FirstFault → ConsumesBelow saved.left.before saved.left.after (file_size + 1)
   pub kept : result ≡ Err FirstFault
       → Consumes saved.left.before saved.left.after file × (length file ≤ file_size)
-  pub not_told : result ≡ Err FirstFault → saved.ends.after ≡ saved.ends.before
+  pub not_reported : result ≡ Err FirstFault → saved.ends.after ≡ saved.ends.before
 
 -- the maximum number of blocks that may follow a checkpoint
 abbrev pub blocks_left : Checkpoint → ℕ
@@ -128,7 +129,7 @@ is_before_rest_end stop = true
 
 -- The end of the rest was recorded once, unless the call stopped before it.
 abbrev pub EndsAsResumed : Result Resumed ResumeStop → Count → Count → Type 0
-EndsAsResumed = ToldUnless is_before_rest_end
+EndsAsResumed = EndReportedUnless is_before_rest_end
 
 -- the result after this number of program blocks
 abbrev pub reached : ℕ → ℕ → ℕ → Result Resumed ResumeStop
@@ -191,7 +192,8 @@ as_played (Err (PastEnd blocks)) = Err (play.PastEnd blocks)
 as_played (Err stop) = Err play.ReadFault
 
 -- A call that resumes reports a fault of an input or of the output exactly if its count rose.
-pub record TellsResume {T : Type 0} (saved rest out : Change ℕ) (result : Result T ResumeStop) : Type 0 where
-  pub first : TellsFault FirstFault saved.before saved.after result
-  pub second : TellsFault SecondFault rest.before rest.after result
-  pub write : TellsFault WriteFault out.before out.after result
+pub record ReportsResume {T : Type 0} (saved rest out : Change ℕ) (result : Result T ResumeStop)
+    : Type 0 where
+  pub first : ReportsFault FirstFault saved.before saved.after result
+  pub second : ReportsFault SecondFault rest.before rest.after result
+  pub write : ReportsFault WriteFault out.before out.after result

@@ -2,7 +2,7 @@
 use Rattle.std.specs.Prelude.{◌≡◌, ℕ, ◌-◌, ◌/◌, Bool, IsTrue, List, ◌++◌, length, drop, replicate, min, Option, Result, Ok, Err}
 use Rattle.cdg_io.specs.Streams.{WholeReading, WritesAtEnd}
 use Rattle.cdg_io.specs.Causes.{Count}
-use Rattle.cdg_io.specs.Reads.{ToldUnless}
+use Rattle.cdg_io.specs.Reads.{EndReportedUnless}
 use Rattle.std.specs.Io.KnownBytes.{Appends}
 use Rattle.cdg_io.specs.Change.{Bytes, Change, Passed}
 use Rattle.cdg_io.specs.Moves.{AppendsPrefix}
@@ -73,4 +73,4 @@ KeepsFile lead_in taken held file (Err stop) = file.after ≡ file.before
 
 -- The end of the input was recorded once, unless the call stopped before it.
 abbrev pub EndsAsSaved : Result Pumped PumpStop → Count → Count → Type 0
-EndsAsSaved = ToldUnless is_before_end
+EndsAsSaved = EndReportedUnless is_before_end

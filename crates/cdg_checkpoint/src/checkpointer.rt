@@ -2,7 +2,7 @@
 ghost use Rattle.std.specs.Prelude.{IfOk, ◌≡◌, ◌≢◌, ◌≤◌, ◌-◌, List, ℕ, length, min, IfSome, IfErr, Err};
 ghost use Rattle.cdg_checkpoint.specs.Keeping.{HasReadNothing, IsKept};
 ghost use Rattle.disc_time.specs.Counts.{most_lead_in};
-ghost use Rattle.cdg_io.specs.Causes.{TellsFault};
+ghost use Rattle.cdg_io.specs.Causes.{ReportsFault};
 ghost use Rattle.std.specs.Io.KnownBytes.{Consumes};
 ghost use Rattle.cdg_io.specs.Change.{change, from_to, passed};
 ghost use Rattle.cdg_io.specs.Pump.{IsUnlessFault, answer_of};
@@ -76,10 +76,10 @@ impl Checkpointer {
             (λ all. IsUnlessFault result (answer_of block_bytes most_units (length all))) }
         // If nothing is written, the output is unchanged.
         ensures untouched { IfErr result (λ stop. stop ≢ PumpStop.WriteFault → out.new ≡ out.old) }
-        ensures read_fault { TellsFault PumpStop.ReadFault
+        ensures read_fault { ReportsFault PumpStop.ReadFault
             (S.faults source.old) (S.faults source.new) result }
         ensures ended { EndsAsSaved result (S.ends source.old) (S.ends source.new) }
-        ensures write_fault { TellsFault PumpStop.WriteFault
+        ensures write_fault { ReportsFault PumpStop.WriteFault
             (K.faults out.old) (K.faults out.new) result }
     {
         self.begin(lead_in);

@@ -1,7 +1,7 @@
 // Resuming from a checkpoint.
 ghost use Rattle.std.specs.Prelude.{◌≡◌, ◌≢◌, ◌≤◌, ◌<◌, ◌+◌, ◌-◌, ◌^◌, List, ℕ, [], length, IfSome, IfErr, IsErr, IsOk, Err};
 ghost use Rattle.disc_time.specs.Counts.{last_block};
-ghost use Rattle.cdg_io.specs.Causes.{TellsFault};
+ghost use Rattle.cdg_io.specs.Causes.{ReportsFault};
 ghost use Rattle.cdg_io.specs.Change.{change, passed};
 ghost use Rattle.cdg_io.specs.Reads.{input};
 ghost use Rattle.cdg_io.specs.Run.{run_state};
@@ -9,7 +9,7 @@ ghost use Rattle.rw_interleave.specs.Gathering.{gather_next};
 ghost use Rattle.cdg_checkpoint.specs.Table.{IsCheckpointFile};
 ghost use Rattle.cdg_checkpoint.specs.Checkpoint.{checkpoint_in, standing_in};
 ghost use Rattle.stream_stages.specs.Stages.{painting_of, words_of};
-ghost use Rattle.cdg_checkpoint.specs.Resumed.{GoesOn, IsAcceptedBy, IsGoneOnBy, IsResumedBy, ReadsSaved, Resumes, acceptance, EndsAsResumed, packs_until, reached, saved_slots, time_after, TellsResume};
+ghost use Rattle.cdg_checkpoint.specs.Resumed.{GoesOn, IsAcceptedBy, IsGoneOnBy, IsResumedBy, ReadsSaved, Resumes, acceptance, EndsAsResumed, packs_until, reached, saved_slots, time_after, ReportsResume};
 
 use crate::watch::watch_some;
 use crate::{Checkpointer, PlainFile, ResumeStop, Resumed, StreamCounts};
@@ -48,9 +48,9 @@ impl Checkpointer {
             (λ all. IsResumedBy result (checkpoint_in self.new.file) at (length all)) }
         // If nothing is written, the output is unchanged.
         ensures untouched { IfErr result (λ stop. stop ≢ ResumeStop.WriteFault → out.new ≡ out.old) }
-        ensures faults { TellsResume (change S.faults saved.old saved.new) (change T.faults rest.old rest.new)
-            (change K.faults out.old out.new) result }
-        ensures rest_told { IsOk (acceptance result)
+        ensures faults { ReportsResume (change S.faults saved.old saved.new)
+            (change T.faults rest.old rest.new) (change K.faults out.old out.new) result }
+        ensures rest_reported { IsOk (acceptance result)
             → EndsAsResumed result (T.ends rest.old) (T.ends rest.new) }
     {
         match self.accept(at, saved) {
@@ -77,11 +77,11 @@ impl Checkpointer {
         ensures answer { IfSome (T.left rest.old)
             (λ all. IsResumedBy result (checkpoint_in self.old.file) at (length all)) }
         ensures untouched { IfErr result (λ stop. stop ≢ ResumeStop.WriteFault → out.new ≡ out.old) }
-        ensures second_fault { TellsFault ResumeStop.SecondFault
+        ensures second_fault { ReportsFault ResumeStop.SecondFault
             (T.faults rest.old) (T.faults rest.new) result }
-        ensures write_fault { TellsFault ResumeStop.WriteFault
+        ensures write_fault { ReportsFault ResumeStop.WriteFault
             (K.faults out.old) (K.faults out.new) result }
-        ensures rest_told { EndsAsResumed result (T.ends rest.old) (T.ends rest.new) }
+        ensures rest_reported { EndsAsResumed result (T.ends rest.old) (T.ends rest.new) }
     {
         match self.go_on(at, rest) {
             Ok(resumed) => {
@@ -99,7 +99,7 @@ impl Checkpointer {
     pub(crate) fn accept<S: Source>(&mut self, at: u32, saved: &mut S) -> Result<(), ResumeStop>
         ensures accepted { IsAcceptedBy result at self.new.file }
         ensures reads { ReadsSaved (input S.Source saved.old saved.new) result self.new.file }
-        ensures fault { TellsFault ResumeStop.FirstFault
+        ensures fault { ReportsFault ResumeStop.FirstFault
             (S.faults saved.old) (S.faults saved.new) result }
     {
         match self.file.read(saved) {
@@ -142,7 +142,7 @@ impl Checkpointer {
         ensures answer { IfSome (S.left rest.old)
             (λ all. IsGoneOnBy result (checkpoint_in self.old.file) at (length all)) }
         ensures file { self.new.file ≡ self.old.file }
-        ensures fault { TellsFault ResumeStop.SecondFault
+        ensures fault { ReportsFault ResumeStop.SecondFault
             (S.faults rest.old) (S.faults rest.new) result }
         ensures ended { EndsAsResumed result (S.ends rest.old) (S.ends rest.new) }
         ensures no_write { result ≢ Err ResumeStop.WriteFault }

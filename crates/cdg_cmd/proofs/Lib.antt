@@ -1,34 +1,34 @@
 mod AuthorStatus
-mod AuthorTold
+mod AuthorReported
 pub mod Commands
 mod Decimals
 mod Ended
 pub mod FirstHalf
 mod LastWords
-mod LateTold
+mod LateReported
 mod LineWords
 pub mod Listings
-mod MergeTold
+mod MergeReported
 pub mod Merged
 mod Played
-mod PressTold
+mod PressReported
 mod PressedBack
 mod PressedShown
 pub mod Performed
 mod Pumped
 mod Quiet
-mod ResumeTold
+mod ResumeReported
 mod ResumedWhole
-mod SaveTold
+mod SaveReported
 pub mod SecondHalf
 mod Statuses
 mod StreamWords
 pub mod TextReads
 pub mod TextStops
-mod ThinTold
+mod ThinReported
 mod Thinning
-pub mod Told
+pub mod Reported
 mod TurnRuns
-mod Wants
+mod Allocations
 pub mod WholeInputs
 mod Written

@@ -22,27 +22,28 @@ performed_as {S} {T} {K} {command} {named} {first} {second} {out} {before} {afte
 
 module _ {S T K : Type 0} {command : Command} {before after : S × T × K} {status : Status} where
   -- the command needs no memory
-  pub wants_none : status ≢ NoMemory → WantsMemory command before after status
-  wants_none found = record {
+  pub no_allocation_failed : status ≢ NoMemory → WantsMemory command before after status
+  no_allocation_failed found = record {
     out = λ none. absurd (found none);
     inputs = λ first none. absurd (found none);
     never = λ takes. found;
   }
 
   -- all memory is allocated before the inputs are read
-  pub wants_first : ¬ (TakesNone command)
+  pub allocations_first : ¬ (TakesNone command)
       → (status ≡ NoMemory → (after.0 ≡ before.0) × (after.1 ≡ before.1) × (after.2 ≡ before.2))
       → WantsMemory command before after status
-  wants_first takes untouched = record {
+  allocations_first takes untouched = record {
     out = λ none. (untouched none).2;
     inputs = λ first none. ((untouched none).0, (untouched none).1);
     never = λ none. absurd (takes none);
   }
 
   -- memory may be allocated later
-  pub wants_later : ¬ (TakesNone command) → ¬ (TakesFirst command) → (status ≡ NoMemory → after.2 ≡ before.2)
+  pub allocations_later : ¬ (TakesNone command) → ¬ (TakesFirst command)
+      → (status ≡ NoMemory → after.2 ≡ before.2)
       → WantsMemory command before after status
-  wants_later takes later untouched = record {
+  allocations_later takes later untouched = record {
     out = untouched;
     inputs = λ first. absurd (later first);
     never = λ none. absurd (takes none);

@@ -8,14 +8,14 @@ use Rattle.cdg_io.specs.Change.{Bytes}
 use Rattle.cdtext_packs.specs.declared.kinds.TextFault.{TextFault}
 use Rattle.cdtext_packs.specs.declared.kinds.TextFault.TheVariants as fault
 use Rattle.stream_stages.specs.Calls.{IsEarly, IsMomentStop, IsStreamStop}
-use Rattle.stream_stages.specs.Faults.{TellsStops}
+use Rattle.stream_stages.specs.Faults.{ReportsStops}
 use Rattle.stream_stages.specs.declared.played.Played.{Played}
 use Rattle.stream_stages.specs.declared.played.PlayStop.{PlayStop}
 use Rattle.stream_stages.specs.declared.played.PlayStop.TheVariants as play
 use Rattle.cdg_cmd.specs.Keeps.{MayWrite}
 use Rattle.cdg_cmd.proofs.Quiet.{count}
 use Rattle.cdg_cmd.proofs.Quiet as quiet
-use Rattle.cdg_cmd.specs.Faults.{TellsOne}
+use Rattle.cdg_cmd.specs.Faults.{ReportsOne}
 use Rattle.cdg_cmd.specs.Stops.{play_status, text_fault_status}
 use Rattle.cdg_cmd.specs.declared.status.Status.{Status}
 use Rattle.cdg_cmd.specs.declared.status.Status.TheVariants.{Done, Damaged, NoMemory, Usage}
@@ -23,14 +23,14 @@ use Rattle.cdg_cmd.specs.declared.status.Status.TheVariants.{Done, Damaged, NoMe
 -- Faults
 
 whole : (f f' k k' : ℕ) → f ≤ f' → k ≤ k' → (good : Bool) (n : ℕ) → f' ≡ f → k' ≡ k
-    → TellsOne (count f f') (count k k') (if good then Done else Damaged n)
+    → ReportsOne (count f f') (count k k') (if good then Done else Damaged n)
 whole f f' k k' r w true n same_read same_write =
     quiet.none f f' k k' r w Done (λ e. cc) (λ e. cc) (λ e. cc) (λ e. cc) same_read same_write
 whole f f' k k' r w false n same_read same_write =
     quiet.none f f' k k' r w (Damaged n) (λ e. cc) (λ e. cc) (λ e. cc) (λ e. cc) same_read same_write
 
 no_texts : (f f' k k' : ℕ) → f ≤ f' → k ≤ k' → (why : TextFault) → f' ≡ f → k' ≡ k
-    → TellsOne (count f f') (count k k') (text_fault_status why)
+    → ReportsOne (count f f') (count k k') (text_fault_status why)
 no_texts f f' k k' r w (fault.Missing seq) same_read same_write =
     quiet.none f f' k k' r w _ (λ e. cc) (λ e. cc) (λ e. cc) (λ e. cc) same_read same_write
 no_texts f f' k k' r w fault.NoSize same_read same_write =
@@ -43,7 +43,7 @@ no_texts f f' k k' r w fault.NoMemory same_read same_write =
 faults : (answer : Result Played PlayStop) (f f' k k' : ℕ) → f ≤ f' → k ≤ k'
     → (IsErrOf answer play.ReadFault → Rose f f') → (answer ≢ Err play.ReadFault → f' ≡ f)
     → (IsErrOf answer play.WriteFault → Rose k k') → (answer ≢ Err play.WriteFault → k' ≡ k)
-    → TellsOne (count f f') (count k k') (play_status answer)
+    → ReportsOne (count f f') (count k k') (play_status answer)
 faults (Ok played) f f' k k' r w rose same cut kept =
     whole f f' k k' r w (played.bad == 0) played.bad (same (λ e. cc)) (kept (λ e. cc))
 faults (Err play.ReadFault) f f' k k' r w rose same cut kept =
@@ -59,16 +59,16 @@ faults (Err (play.PastEnd blocks)) f f' k k' r w rose same cut kept =
 faults (Err (play.Text why)) f f' k k' r w rose same cut kept =
     no_texts f f' k k' r w why (same (λ e. cc)) (kept (λ e. cc))
 
-pub told_one : (answer : Result Played PlayStop) (status : Status) (f f' k k' : ℕ)
-    → status ≡ play_status answer → TellsStops f f' k k' answer
-    → TellsOne (count f f') (count k k') status
-told_one answer status f f' k k' is h =
-    subst (λ (s : Status). TellsOne (count f f') (count k k') s) (sym is)
+pub reported_one : (answer : Result Played PlayStop) (status : Status) (f f' k k' : ℕ)
+    → status ≡ play_status answer → ReportsStops f f' k k' answer
+    → ReportsOne (count f f') (count k k') status
+reported_one answer status f f' k k' is h =
+    subst (λ (s : Status). ReportsOne (count f f') (count k k') s) (sym is)
     (faults answer f f' k k' h.read.later h.write.later h.read.rose h.read.same h.write.rose h.write.same)
 
 -- no memory was found, and nothing was done
-pub told_none : (f k : ℕ) → TellsOne (count f f) (count k k) NoMemory
-told_none f k =
+pub reported_none : (f k : ℕ) → ReportsOne (count f f) (count k k) NoMemory
+reported_none f k =
     quiet.none f f k k (omega arith) (omega arith) NoMemory (λ e. cc) (λ e. cc) (λ e. cc) (λ e. cc) refl refl
 
 -- Stops
@@ -181,10 +181,10 @@ lacking (Err (play.Text (fault.Malformed seq byte))) form lead_in left left' end
 lacking (Err (play.Text fault.NoMemory)) form lead_in left left' ended listed none =
     (ended (play.Text fault.NoMemory) refl (λ early. cc), texts_if_known form lead_in left listed)
 
-pub lacks_memory : (answer : Result Played PlayStop) (status : Status) (form : Form) (lead_in : ℕ)
+pub out_of_memory_is : (answer : Result Played PlayStop) (status : Status) (form : Form) (lead_in : ℕ)
     (left left' : Bytes) → status ≡ play_status answer
     → ((stop : PlayStop) → answer ≡ Err stop → ¬ (IsEarly stop) → IsAtEnd left')
     → IfSome left (λ all. IsListedBy answer form lead_in all) → status ≡ NoMemory
     → IsAtEnd left' × IfSome left (GivesTexts form lead_in)
-lacks_memory answer status form lead_in left left' is ended listed none =
+out_of_memory_is answer status form lead_in left left' is ended listed none =
     lacking answer form lead_in left left' ended listed (sym is ∙ none)

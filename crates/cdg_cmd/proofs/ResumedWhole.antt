@@ -336,17 +336,18 @@ module _ (laws : Laws) (lead_in at : ℕ) (part rest file : List ℕ) (pumped : 
     (first : IsFirstPart lead_in part) (saved : IsSaved lead_in part pumped file)
     (not_later : length part / 96 - lead_in ≤ at) (more' : Bytes) (out : Change Bytes) (status : Status)
     (answered : IsAnswered status) (g : GoesOnWith file at rest more' out status) where
-  told : IsAnswered (resume_status g.answer)
-  told = subst IsAnswered g.status_is answered
+  reported : IsAnswered (resume_status g.answer)
+  reported = subst IsAnswered g.status_is answered
 
   as_player : status ≡ play_status (as_played g.answer)
-  as_player = g.status_is ∙ played_status g.answer file rest at told g.exactly
+  as_player = g.status_is ∙ played_status g.answer file rest at reported g.exactly
 
   shows : Shows pixmap (moment Raw lead_in at) (passing (from_to (Some (part ++ rest)) more') out)
       (as_played g.answer) (part ++ g.taken)
   shows =
       laws.whole lead_in at part rest file g.taken pumped g.answer more' out first saved not_later
-      (λ e. absurd (subst (λ (r : Result Resumed ResumeStop). IsAnswered (resume_status r)) e told)) g.exactly
+      (λ e. absurd (subst (λ (r : Result Resumed ResumeStop). IsAnswered (resume_status r)) e reported))
+      g.exactly
       g.resumes
 
   shown_by : IsShownBy (as_played g.answer) lead_in at 96 (length (part ++ rest))

@@ -1,8 +1,8 @@
 -- From the stop of reading a text to the status of a command.
 use Rattle.std.proofs.Common.{◌≡◌, ◌<◌, ◌≤◌, ◌+◌, ℕ, List, [], ◌∷◌, length, None, Some, IfSome, IsErrOf, Ok, Err, refl, sym, ap, subst, arith}
-use Rattle.cdg_io.specs.Causes.{TellsFault}
+use Rattle.cdg_io.specs.Causes.{ReportsFault}
 use Rattle.cdg_io.specs.Change.{Bytes, Input, change}
-use Rattle.cdg_io.specs.Reads.{ToldUnless, is_before_text_end}
+use Rattle.cdg_io.specs.Reads.{EndReportedUnless, is_before_text_end}
 use Rattle.cdg_io.specs.Whole.{ConsumesExactly, ReadsWithin, StopsAtFault}
 use Rattle.cdg_io.specs.declared.ends.Source.{Ghosts as Source}
 use Rattle.cdg_io.specs.declared.whole.ReadStop.{ReadStop}
@@ -99,18 +99,18 @@ module _ {S : Type 0} (source : Source S) (before after : S) where
 
 -- the end of an input that was not read completely
 text_ends_at : (which : Which) (stop : ReadStop) (input : Input)
-    → ToldUnless {T = ℕ} is_before_text_end (Err stop) input.ends.before input.ends.after
+    → EndReportedUnless {T = ℕ} is_before_text_end (Err stop) input.ends.before input.ends.after
     → StopEnds input (read_status which stop)
-text_ends_at which read.Failed input told = told
-text_ends_at which read.TooLong input told = told
-text_ends_at which read.NoMemory input told = told
+text_ends_at which read.Failed input reported = reported
+text_ends_at which read.TooLong input reported = reported
+text_ends_at which read.NoMemory input reported = reported
 
 pub text_ends : (which : Which) (stop : ReadStop) (status : Status) (input : Input)
     → status ≡ read_status which stop
-    → ToldUnless {T = ℕ} is_before_text_end (Err stop) input.ends.before input.ends.after
+    → EndReportedUnless {T = ℕ} is_before_text_end (Err stop) input.ends.before input.ends.after
     → StopEnds input status
-text_ends which stop status input is told =
-    subst (StopEnds input) (sym is) (text_ends_at which stop input told)
+text_ends which stop status input is reported =
+    subst (StopEnds input) (sym is) (text_ends_at which stop input reported)
 
 -- Stops at an input of which no text was read: the cue sheet, the script and the file
 
@@ -188,29 +188,30 @@ module _ (left : Bytes) (text : List ℕ) (within : length text ≤ most_text_by
   refused_sheet stop status is answer = subst (IsSheetStop left) (sym is) (sheet_stop stop answer)
 
 -- the same status ends the outer call
-pub same_stop : {A B : Type 0} (fault status : Status) (f f' : ℕ) → TellsFault {T = A} fault f f' (Err status)
-    → TellsFault {T = B} fault f f' (Err status)
-same_stop fault status f f' told = record {
-  later = told.later;
-  rose = λ e. told.rose (ap Err (cc));
-  same = λ other. told.same (λ e. other (ap Err (cc)));
+pub same_stop : {A B : Type 0} (fault status : Status) (f f' : ℕ)
+    → ReportsFault {T = A} fault f f' (Err status)
+    → ReportsFault {T = B} fault f f' (Err status)
+same_stop fault status f f' reported = record {
+  later = reported.later;
+  rose = λ e. reported.rose (ap Err (cc));
+  same = λ other. reported.same (λ e. other (ap Err (cc)));
 }
 
 -- The fault of a read is reported as the fault of its input.
 
 read_fault : {A B : Type 0} (which : Which) (stop : ReadStop) (f f' : ℕ)
-    → TellsFault {T = A} read.Failed f f' (Err stop)
-    → TellsFault {T = B} (ReadFault which) f f' (Err (read_status which stop))
-read_fault which read.Failed f f' told =
-    record { later = told.later; rose = λ e. told.rose refl; same = λ other. absurd (other refl) }
-read_fault which read.TooLong f f' told =
-    record { later = told.later; rose = λ e. absurd (cc); same = λ other. told.same (λ e. cc) }
-read_fault which read.NoMemory f f' told =
-    record { later = told.later; rose = λ e. absurd (cc); same = λ other. told.same (λ e. cc) }
+    → ReportsFault {T = A} read.Failed f f' (Err stop)
+    → ReportsFault {T = B} (ReadFault which) f f' (Err (read_status which stop))
+read_fault which read.Failed f f' reported =
+    record { later = reported.later; rose = λ e. reported.rose refl; same = λ other. absurd (other refl) }
+read_fault which read.TooLong f f' reported =
+    record { later = reported.later; rose = λ e. absurd (cc); same = λ other. reported.same (λ e. cc) }
+read_fault which read.NoMemory f f' reported =
+    record { later = reported.later; rose = λ e. absurd (cc); same = λ other. reported.same (λ e. cc) }
 
 pub unread_fault : {A B : Type 0} (which : Which) (stop : ReadStop) (status : Status) (f f' : ℕ)
-    → status ≡ read_status which stop → TellsFault {T = A} read.Failed f f' (Err stop)
-    → TellsFault {T = B} (ReadFault which) f f' (Err status)
-unread_fault {A} {B} which stop status f f' is told =
-    subst (λ (s : Status). TellsFault {T = B} (ReadFault which) f f' (Err s)) (sym is)
-    (read_fault which stop f f' told)
+    → status ≡ read_status which stop → ReportsFault {T = A} read.Failed f f' (Err stop)
+    → ReportsFault {T = B} (ReadFault which) f f' (Err status)
+unread_fault {A} {B} which stop status f f' is reported =
+    subst (λ (s : Status). ReportsFault {T = B} (ReadFault which) f f' (Err s)) (sym is)
+    (read_fault which stop f f' reported)

@@ -13,7 +13,7 @@ use Rattle.cdg_io.specs.Streams.{Reading, as_pumped}
 use Rattle.cdg_io.specs.declared.pumping.Pumped.{Pumped}
 use Rattle.cdg_io.specs.declared.pumping.PumpStop.{PumpStop}
 use Rattle.cdg_io.specs.declared.pumping.PumpStop.TheVariants as pump
-use Rattle.cdg_io.proofs.Streaming.{IsWhole, IsTold, bytes_of, streams_done, streams_stop}
+use Rattle.cdg_io.proofs.Streaming.{IsWhole, IsReported, bytes_of, streams_done, streams_stop}
 use Rattle.raw_subcode.specs.Channels.{IsPlanarForm}
 use Rattle.raw_subcode.specs.PlanarBytes.{block_from_planar, gathered_at, packed_at, planar_form}
 use Rattle.raw_subcode.proofs.Eight.{from_planar_is, to_planar_is}
@@ -95,8 +95,8 @@ module _ (turned : List ℕ → List ℕ → Type 0) (f : List ℕ → List ℕ)
         (turned_text bytes n whole);
   }
 
-  told : (stop : PumpStop) → IsTold pump.Torn pump.WriteFault stop stop
-  told stop = record { fault_kept = λ e. e; fault_only = λ e. e; torn_only = λ n e. e }
+  reported : (stop : PumpStop) → IsReported pump.Torn pump.WriteFault stop stop
+  reported stop = record { fault_kept = λ e. e; fault_only = λ e. e; torn_only = λ n e. e }
 
   abbrev turning : Reading Pumped PumpStop
   turning = as_pumped (record { size = 96; limit = 1000000 }) (IsTurned (TurnsBlocks turned))
@@ -109,7 +109,7 @@ module _ (turned : List ℕ → List ℕ → Type 0) (f : List ℕ → List ℕ)
       (λ bytes n few whole. (record { units = n }, says moved.state.before bytes n whole)) p
       (λ whole. says moved.state.before taken pumped.units whole)
   turns moved taken (Err stop) p =
-      streams_stop turning (turner f) moved taken stop stop (omega arith) (told stop)
+      streams_stop turning (turner f) moved taken stop stop (omega arith) (reported stop)
       (λ bytes n few whole. (record { units = n }, says moved.state.before bytes n whole)) p
 
 -- the two conversions

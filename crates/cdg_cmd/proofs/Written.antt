@@ -1,15 +1,15 @@
 -- Faults of a command that reads no input.
 use Rattle.std.proofs.Common.{◌≡◌, ◌≤◌, ℕ}
 use Rattle.cdg_io.specs.Causes.{Rose}
-use Rattle.cdg_cmd.specs.Faults.{IsTold}
+use Rattle.cdg_cmd.specs.Faults.{IsReported}
 use Rattle.cdg_cmd.specs.declared.status.Status.TheVariants.{Done, WriteFault, NoMemory}
-use Rattle.cdg_cmd.proofs.Quiet.{count, silent, told}
+use Rattle.cdg_cmd.proofs.Quiet.{count, silent, reported}
 
-pub told_done : (k k' : ℕ) → k ≤ k' → k' ≡ k → IsTold WriteFault (count k k') Done
-told_done k k' later same = silent WriteFault Done k k' later (λ e. cc) same
+pub reported_done : (k k' : ℕ) → k ≤ k' → k' ≡ k → IsReported WriteFault (count k k') Done
+reported_done k k' later same = silent WriteFault Done k k' later (λ e. cc) same
 
-pub told_cut : (k k' : ℕ) → k ≤ k' → Rose k k' → IsTold WriteFault (count k k') WriteFault
-told_cut k k' later rose = told WriteFault k k' later rose
+pub reported_cut : (k k' : ℕ) → k ≤ k' → Rose k k' → IsReported WriteFault (count k k') WriteFault
+reported_cut k k' later rose = reported WriteFault k k' later rose
 
-pub told_nothing : (k k' : ℕ) → k ≤ k' → k' ≡ k → IsTold WriteFault (count k k') NoMemory
-told_nothing k k' later same = silent WriteFault NoMemory k k' later (λ e. cc) same
+pub reported_nothing : (k k' : ℕ) → k ≤ k' → k' ≡ k → IsReported WriteFault (count k k') NoMemory
+reported_nothing k k' later same = silent WriteFault NoMemory k k' later (λ e. cc) same

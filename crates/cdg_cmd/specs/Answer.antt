@@ -109,12 +109,12 @@ Does (Resume at) call status = ResumesWith at call status
 -- The facts if an allocation failed. For `author` and `press` they are part of the ends of these commands. `text`
 -- read nothing, or it read a whole input of not too many whole blocks, whose lead-in holds texts. The other commands
 -- allocate before they read.
-abbrev pub LacksMemory : Command → Call Bytes → Type 0
-LacksMemory (Text lead_in form) call = (call.first.after ≡ call.first.before)
+abbrev pub OutOfMemory : Command → Call Bytes → Type 0
+OutOfMemory (Text lead_in form) call = (call.first.after ≡ call.first.before)
     ⊎ (IsAtEnd call.first.after × IfSome call.first.before (GivesTexts form lead_in))
-LacksMemory (Author lead_in length) call = AuthorsWith lead_in length call NoMemory
-LacksMemory (Press lead_in length) call = PressesWith lead_in length call NoMemory
-LacksMemory command call = ⊤
+OutOfMemory (Author lead_in length) call = AuthorsWith lead_in length call NoMemory
+OutOfMemory (Press lead_in length) call = PressesWith lead_in length call NoMemory
+OutOfMemory command call = ⊤
 
 -- The status is `Done` and the statement `holds` is true; or a read or a write failed, or memory ran out.
 abbrev pub OnDone : Type 0 → Status → Type 0

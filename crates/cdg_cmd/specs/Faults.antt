@@ -8,25 +8,25 @@ use Rattle.cdg_cmd.specs.declared.status.Status.TheVariants.{Done, Damaged, Usag
 use Rattle.cdg_cmd.specs.declared.status.Which.TheVariants.{First, Second}
 
 -- A count of faults did not fall: if the status is this fault the count rose, otherwise it is unchanged.
-pub record IsTold (fault : Status) (count : Change ℕ) (status : Status) : Type 0 where
+pub record IsReported (fault : Status) (count : Change ℕ) (status : Status) : Type 0 where
   pub later : count.before ≤ count.after
   pub rose : status ≡ fault → Rose count.before count.after
   pub same : status ≢ fault → count.after ≡ count.before
 
 -- The status is `NoMemory` if and only if an allocation failed: the count of failed allocations rose.
-abbrev pub TellsWant : ℕ → ℕ → Status → Type 0
-TellsWant before after status = IsTold NoMemory (from_to before after) status
+abbrev pub ReportsNoMemory : ℕ → ℕ → Status → Type 0
+ReportsNoMemory before after status = IsReported NoMemory (from_to before after) status
 
--- `IsTold` holds for both inputs and for the output.
-pub record TellsFaults (counts : Call ℕ) (status : Status) : Type 0 where
-  pub first : IsTold (ReadFault First) counts.first status
-  pub second : IsTold (ReadFault Second) counts.second status
-  pub out : IsTold WriteFault counts.out status
+-- `IsReported` holds for both inputs and for the output.
+pub record ReportsFaults (counts : Call ℕ) (status : Status) : Type 0 where
+  pub first : IsReported (ReadFault First) counts.first status
+  pub second : IsReported (ReadFault Second) counts.second status
+  pub out : IsReported WriteFault counts.out status
 
--- `IsTold` holds for a command with one input: the words were a command, and the status is no fault of another input.
-pub record TellsOne (source out : Change ℕ) (status : Status) : Type 0 where
-  pub read : IsTold (ReadFault First) source status
-  pub write : IsTold WriteFault out status
+-- `IsReported` holds for a command with one input: the words were a command, and the status is no fault of another input.
+pub record ReportsOne (source out : Change ℕ) (status : Status) : Type 0 where
+  pub read : IsReported (ReadFault First) source status
+  pub write : IsReported WriteFault out status
   pub never : (status ≢ Usage) × (status ≢ ReadFault Second)
 
 -- No count of faults rose.

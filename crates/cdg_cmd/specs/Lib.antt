@@ -19,7 +19,7 @@ pub mod Splitting
 pub mod Thinned
 pub mod Stopped
 pub mod Stops
-pub mod Told
+pub mod Reported
 pub mod Turns
 pub mod Unpresses
 pub mod Words

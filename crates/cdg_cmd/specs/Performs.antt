@@ -1,10 +1,10 @@
 -- The contract of a performed command.
 use Rattle.std.specs.Prelude.{◌≡◌, ◌≢◌}
 use Rattle.cdg_io.specs.Change.{Bytes, Change, Input}
-use Rattle.cdg_cmd.specs.Answer.{Does, LacksMemory}
+use Rattle.cdg_cmd.specs.Answer.{Does, OutOfMemory}
 use Rattle.cdg_cmd.specs.Call.{Call}
 use Rattle.cdg_cmd.specs.Keeps.{Keeps, TakesFirst, TakesNone, WantsMemory}
-use Rattle.cdg_cmd.specs.Profile.{TellsEnds}
+use Rattle.cdg_cmd.specs.Profile.{ReportsEnds}
 use Rattle.cdg_cmd.specs.declared.command.Command.{Command}
 use Rattle.cdg_cmd.specs.declared.status.Status.{Status}
 use Rattle.cdg_cmd.specs.declared.status.Status.TheVariants.{NoMemory}
@@ -23,10 +23,10 @@ pub record Performs {S T K : Type 0} (command : Command) (first second : Input) 
   -- the status and the output
   pub does : status ≢ NoMemory → Does command (seen_bytes first second out) status
   -- what is known of the inputs if an allocation failed
-  pub lacks : status ≡ NoMemory → LacksMemory command (seen_bytes first second out)
+  pub out_of_memory : status ≡ NoMemory → OutOfMemory command (seen_bytes first second out)
   -- the end of an input is recorded once if it was read to its end, otherwise never; if the first allocation failed, an
   -- input is unchanged (`memory`)
-  pub ends : (TakesFirst command → status ≢ NoMemory) → TellsEnds command first second status
+  pub ends : (TakesFirst command → status ≢ NoMemory) → ReportsEnds command first second status
 
 -- The effect of a command if no allocation failed. A command that allocates nothing never has the status `NoMemory`.
 pub record Did (command : Command) (call : Call Bytes) (status : Status) : Type 0 where

@@ -3,7 +3,7 @@
 use Rattle.std.specs.Prelude.{◌≡◌, ◌≢◌, ◌≤◌, ◌<◌, ◌^◌, ℕ, List, [], codes, ⊤}
 use Rattle.cdg_checkpoint.specs.Saved.{EndsAsSaved}
 use Rattle.cdg_io.specs.Change.{Bytes, Change, Input}
-use Rattle.cdg_io.specs.Pump.{TellsEndOf}
+use Rattle.cdg_io.specs.Pump.{ReportsEndOf}
 use Rattle.cdg_workload.specs.Script.{most_generated}
 use Rattle.cue_sheet.specs.CueSheet.{CueSheet}
 use Rattle.disc_time.specs.Counts.{most_lead_in, time_count}
@@ -101,13 +101,13 @@ profile (Author lead_in length) = profile_row (codes "author")
     AfterSheet TakesLater AtTheEnd (TextsEnd IsScriptStop author_status)
 profile Planar = profile_row (codes "planar")
     ⊤ HasNoOptions
-    OneInput TakesNothing AsItGoes (FirstEnds (EndsAs pump_status TellsEndOf))
+    OneInput TakesNothing AsItGoes (FirstEnds (EndsAs pump_status ReportsEndOf))
 profile Raw = profile_row (codes "raw")
     ⊤ HasNoOptions
-    OneInput TakesNothing AsItGoes (FirstEnds (EndsAs pump_status TellsEndOf))
+    OneInput TakesNothing AsItGoes (FirstEnds (EndsAs pump_status ReportsEndOf))
 profile (Scratch lead_in seed) = profile_row (codes "scratch")
     ((lead_in ≤ most_lead_in) × (seed < 2 ^ 64)) (IsScratchOptions lead_in seed)
-    OneInput TakesNothing AsItGoes (FirstEnds (EndsAs pump_status TellsEndOf))
+    OneInput TakesNothing AsItGoes (FirstEnds (EndsAs pump_status ReportsEndOf))
 profile (Gen seed pictures) = profile_row (codes "gen")
     ((seed < 2 ^ 64) × (1 ≤ pictures) × (pictures ≤ most_generated)) (IsSeedOptions seed pictures)
     NoInput TakesNothing AsItGoes (FirstEnds NeverEnds)
@@ -119,7 +119,7 @@ profile (Merge lead_in) = profile_row (codes "merge")
     InTurn TakesNothing AsItGoes ReadingsEnd
 profile Thin = profile_row (codes "thin")
     ⊤ HasNoOptions
-    OneInput TakesBefore AsItGoes (FirstEnds (EndsAs thin_status TellsEndOf))
+    OneInput TakesBefore AsItGoes (FirstEnds (EndsAs thin_status ReportsEndOf))
 profile (Press lead_in length) = profile_row (codes "press")
     ((lead_in ≤ most_lead_in) × (length < time_count)) (IsLengths lead_in length)
     AfterSheet TakesLater AtTheEnd (TextsEnd IsFileStop press_status)
@@ -132,5 +132,5 @@ profile (Resume at) = profile_row (codes "resume")
 
 -- If no allocation before reading failed, the end of each input is recorded once if it was read to its end, otherwise
 -- never.
-abbrev pub TellsEnds : Command → Input → Input → Status → Type 0
-TellsEnds command = (profile command).ends
+abbrev pub ReportsEnds : Command → Input → Input → Status → Type 0
+ReportsEnds command = (profile command).ends

@@ -1,11 +1,11 @@
 // Calls that request memory, as commands make them.
 ghost use Rattle.std.specs.Prelude.{◌≡◌, ◌≢◌, ◌≤◌, ◌<◌, IfErr, IfOk, IfSome, OnOk, length};
 ghost use Rattle.std.specs.Io.KnownBytes.{IsAtEnd};
-ghost use Rattle.cdg_io.specs.Causes.{TellsFault};
+ghost use Rattle.cdg_io.specs.Causes.{ReportsFault};
 ghost use Rattle.cdg_io.specs.Change.{change};
 ghost use Rattle.cdg_io.specs.Reads.{input};
 ghost use Rattle.cdg_cmd.specs.Authors.{IsInputStop, IsPutFor, TakesAtStop};
-ghost use Rattle.cdg_cmd.specs.Ends.{TellsText};
+ghost use Rattle.cdg_cmd.specs.Ends.{ReportsTextEnd};
 ghost use Rattle.cdg_cmd.specs.Presses.{IsPressedFor};
 ghost use Rattle.cdg_cmd.specs.Stopped.{KeepsOutput, unwrapped};
 ghost use Rattle.cdg_press.specs.Pressed.{press_of};
@@ -43,7 +43,7 @@ pub(crate) fn list_texts<S: Source, K: Sink>(
     requires form { form ≢ Form.Cooked }
     ensures plays { PlaysThenWrites (text_listing form lead_in) S.Source K.Sink
         (source.old, out.old) (source.new, out.new) result }
-    ensures counted { TellsFault (play.Text fault.NoMemory) heap.old heap.new result }
+    ensures counted { ReportsFault (play.Text fault.NoMemory) heap.old heap.new result }
 {
     plain(heap.asked_with(source, out, |alloc, source, out| {
         list_from(alloc, lister, lead_in, form, source, out)
@@ -77,10 +77,10 @@ pub(crate) fn read_text<S: Source>(
     ensures within { IfOk result (λ v. length v.items ≤ most_text_bytes) }
     ensures err { IfErr result (IsInputStop which (S.left source.old)) }
     ensures taken { IfErr result (TakesAtStop (change S.left source.old source.new)) }
-    ensures fault { TellsFault (Status.ReadFault which)
+    ensures fault { ReportsFault (Status.ReadFault which)
         (S.faults source.old) (S.faults source.new) result }
-    ensures wants { TellsFault Status.NoMemory heap.old heap.new result }
-    ensures told { TellsText (input S.Source source.old source.new) result }
+    ensures allocations { ReportsFault Status.NoMemory heap.old heap.new result }
+    ensures reported { ReportsTextEnd (input S.Source source.old source.new) result }
 {
     heap.asked_with(source, &mut (), |alloc, source, _| {
         read_from(alloc, which, source)
@@ -93,9 +93,9 @@ fn read_from<S: Source>(alloc: Global, which: Which, source: &mut S) -> Result<V
     ensures within { IfOk result (λ v. length v.items ≤ most_text_bytes) }
     ensures err { IfErr result (IsInputStop which (S.left source.old)) }
     ensures taken { IfErr result (TakesAtStop (change S.left source.old source.new)) }
-    ensures fault { TellsFault (Status.ReadFault which)
+    ensures fault { ReportsFault (Status.ReadFault which)
         (S.faults source.old) (S.faults source.new) result }
-    ensures told { TellsText (input S.Source source.old source.new) result }
+    ensures reported { ReportsTextEnd (input S.Source source.old source.new) result }
 {
     match read_whole(alloc, source, MOST_TEXT_BYTES) {
         Ok(text) => Ok(text),
@@ -117,8 +117,8 @@ pub(crate) fn author<K: Sink>(
     ensures put { IsPutFor (disc_of sheet.now script.now lead_in length)
         (change K.held out.old out.new) result }
     ensures untouched { IfErr result (λ stop. stop ≢ AuthorStop.WriteFault → out.new ≡ out.old) }
-    ensures write_fault { TellsFault AuthorStop.WriteFault (K.faults out.old) (K.faults out.new) result }
-    ensures counted { TellsFault AuthorStop.NoMemory heap.old heap.new result }
+    ensures write_fault { ReportsFault AuthorStop.WriteFault (K.faults out.old) (K.faults out.new) result }
+    ensures counted { ReportsFault AuthorStop.NoMemory heap.old heap.new result }
 {
     // Laws: the tracks of a sheet and the times of a script are in order, so both have a stream if nothing is
     // refused.
@@ -143,8 +143,8 @@ pub(crate) fn press<K: Sink>(
     ensures put { IsPressedFor (press_of sheet.now file.now lead_in length)
         (change K.held out.old out.new) result }
     ensures untouched { IfErr result (λ stop. stop ≢ PressStop.WriteFault → out.new ≡ out.old) }
-    ensures write_fault { TellsFault PressStop.WriteFault (K.faults out.old) (K.faults out.new) result }
-    ensures counted { TellsFault PressStop.NoMemory heap.old heap.new result }
+    ensures write_fault { ReportsFault PressStop.WriteFault (K.faults out.old) (K.faults out.new) result }
+    ensures counted { ReportsFault PressStop.NoMemory heap.old heap.new result }
 {
     plain(heap.asked_with(&mut (), out, |alloc, _, out| {
         press_from(alloc, sheet, file, lead_in, length, out)
@@ -165,7 +165,7 @@ fn press_from<K: Sink>(
     ensures put { IsPressedFor (press_of sheet.now file.now lead_in length)
         (change K.held out.old out.new) (unwrapped result) }
     ensures untouched { KeepsOutput out.old out.new (unwrapped result) }
-    ensures write_fault { TellsFault PressStop.WriteFault
+    ensures write_fault { ReportsFault PressStop.WriteFault
         (K.faults out.old) (K.faults out.new) (unwrapped result) }
 {
     wrap(press_stream(alloc, sheet, file, lead_in, length, out))

@@ -12,5 +12,5 @@ mod streams;
 mod top;
 
 pub use command::{Command, Split, read_words};
-pub use status::{Refusal, Status, Which, tell};
+pub use status::{Refusal, Status, Which, report_status};
 pub use top::{perform, run, split};

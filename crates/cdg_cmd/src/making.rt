@@ -1,13 +1,13 @@
 // The commands that make a stream or a script.
 ghost use Rattle.std.specs.Prelude.{◌≡◌, ◌≢◌, ◌≤◌, ◌<◌, ◌⊎◌, IfOk, IfErr, OnOk, Err, length};
 ghost use Rattle.disc_time.specs.Counts.{most_lead_in, time_count};
-ghost use Rattle.cdg_io.specs.Causes.{TellsFault};
+ghost use Rattle.cdg_io.specs.Causes.{ReportsFault};
 ghost use Rattle.cdg_cmd.specs.Authors.{AuthorsWith, IsScriptStop, IsSheetStop, ReadsScript, ReadsSheet, TakesAtStop};
 ghost use Rattle.cdg_io.specs.Change.{change};
 ghost use Rattle.cdg_io.specs.Reads.{input};
 ghost use Rattle.cdg_cmd.specs.Call.{call};
-ghost use Rattle.cdg_cmd.specs.Ends.{TellsText, TextsEnd};
-ghost use Rattle.cdg_cmd.specs.Faults.{IsTold, TellsFaults, TellsWant};
+ghost use Rattle.cdg_cmd.specs.Ends.{ReportsTextEnd, TextsEnd};
+ghost use Rattle.cdg_cmd.specs.Faults.{IsReported, ReportsFaults, ReportsNoMemory};
 ghost use Rattle.cdg_cmd.specs.Keeps.{MayReadSecond};
 ghost use Rattle.cdg_cmd.specs.Presses.{IsFileStop, PressesWith};
 ghost use Rattle.cdg_cmd.specs.Stops.{author_status, press_status};
@@ -30,10 +30,10 @@ fn read_sheet<S: Source>(heap: &mut Heap, first: &mut S) -> Result<Sheet, Status
     ensures ok { IfOk result (ReadsSheet (change S.left first.old first.new)) }
     ensures err { IfErr result (IsSheetStop (S.left first.old)) }
     ensures taken { IfErr result (TakesAtStop (change S.left first.old first.new)) }
-    ensures fault { TellsFault (Status.ReadFault Which.First)
+    ensures fault { ReportsFault (Status.ReadFault Which.First)
         (S.faults first.old) (S.faults first.new) result }
-    ensures wants { TellsFault Status.NoMemory heap.old heap.new result }
-    ensures told { TellsText (input S.Source first.old first.new) result }
+    ensures allocations { ReportsFault Status.NoMemory heap.old heap.new result }
+    ensures reported { ReportsTextEnd (input S.Source first.old first.new) result }
 {
     let text = match read_text(heap, Which::First, first) {
         Ok(text) => text,
@@ -50,10 +50,10 @@ fn read_script<S: Source>(heap: &mut Heap, second: &mut S) -> Result<Script, Sta
     ensures ok { IfOk result (ReadsScript (change S.left second.old second.new)) }
     ensures err { IfErr result (IsScriptStop (S.left second.old)) }
     ensures taken { IfErr result (TakesAtStop (change S.left second.old second.new)) }
-    ensures fault { TellsFault (Status.ReadFault Which.Second)
+    ensures fault { ReportsFault (Status.ReadFault Which.Second)
         (S.faults second.old) (S.faults second.new) result }
-    ensures wants { TellsFault Status.NoMemory heap.old heap.new result }
-    ensures told { TellsText (input S.Source second.old second.new) result }
+    ensures allocations { ReportsFault Status.NoMemory heap.old heap.new result }
+    ensures reported { ReportsTextEnd (input S.Source second.old second.new) result }
 {
     let text = match read_text(heap, Which::Second, second) {
         Ok(text) => text,
@@ -82,11 +82,11 @@ pub(crate) fn run_author<S: Source, T: Source, K: Sink>(
     ensures untouched { result ≢ Status.Done → result ≢ Status.WriteFault → out.new ≡ out.old }
     ensures second { (second.new ≡ second.old)
         ⊎ MayReadSecond (Command.Author lead_in length) (input S.Source first.old first.new) }
-    ensures faults { TellsFaults (call S.faults T.faults K.faults (first.old, second.old, out.old)
+    ensures faults { ReportsFaults (call S.faults T.faults K.faults (first.old, second.old, out.old)
         (first.new, second.new, out.new)) result }
     ensures ended { TextsEnd IsScriptStop author_status (input S.Source first.old first.new)
         (input T.Source second.old second.new) result }
-    ensures wants { TellsWant heap.old heap.new result }
+    ensures allocations { ReportsNoMemory heap.old heap.new result }
 {
     let sheet = match read_sheet(heap, first) {
         Ok(sheet) => sheet,
@@ -116,11 +116,11 @@ pub(crate) fn run_press<S: Source, T: Source, K: Sink>(
     ensures untouched { result ≢ Status.Done → result ≢ Status.WriteFault → out.new ≡ out.old }
     ensures second { (second.new ≡ second.old)
         ⊎ MayReadSecond (Command.Press lead_in length) (input S.Source first.old first.new) }
-    ensures faults { TellsFaults (call S.faults T.faults K.faults (first.old, second.old, out.old)
+    ensures faults { ReportsFaults (call S.faults T.faults K.faults (first.old, second.old, out.old)
         (first.new, second.new, out.new)) result }
     ensures ended { TextsEnd IsFileStop press_status (input S.Source first.old first.new)
         (input T.Source second.old second.new) result }
-    ensures wants { TellsWant heap.old heap.new result }
+    ensures allocations { ReportsNoMemory heap.old heap.new result }
 {
     let sheet = match read_sheet(heap, first) {
         Ok(sheet) => sheet,
@@ -134,12 +134,12 @@ pub(crate) fn run_press<S: Source, T: Source, K: Sink>(
 }
 
 /// Writes the script of a seed.
-#[tactic(auto, using(crate::proofs::Written::told_done, crate::proofs::Written::told_cut))]
+#[tactic(auto, using(crate::proofs::Written::reported_done, crate::proofs::Written::reported_cut))]
 pub(crate) fn run_gen<K: Sink>(seed: u64, pictures: u32, out: &mut K) -> Status
     requires { (1 ≤ pictures) × (pictures ≤ most_generated) }
     ensures does { Generates (generated_script seed pictures) (change K.held out.old out.new) result }
     ensures never { (result ≡ Status.Done) ⊎ (result ≡ Status.WriteFault) }
-    ensures faults { IsTold Status.WriteFault (change K.faults out.old out.new) result }
+    ensures faults { IsReported Status.WriteFault (change K.faults out.old out.new) result }
 {
     match write_script(seed, pictures, out) {
         Ok(()) => Status::Done,
@@ -148,14 +148,14 @@ pub(crate) fn run_gen<K: Sink>(seed: u64, pictures: u32, out: &mut K) -> Status
 }
 
 /// Writes the lines of a trial of a seed.
-#[tactic(auto, using(crate::proofs::Written::told_done, crate::proofs::Written::told_cut, crate::proofs::Written::told_nothing))]
+#[tactic(auto, using(crate::proofs::Written::reported_done, crate::proofs::Written::reported_cut, crate::proofs::Written::reported_nothing))]
 pub(crate) fn run_trial<K: Sink>(heap: &mut Heap, seed: u64, pictures: u32, out: &mut K) -> Status
     requires { (1 ≤ pictures) × (pictures ≤ most_generated) }
     ensures does { result ≢ Status.NoMemory → Tries seed pictures (change K.held out.old out.new) result }
     ensures never { (result ≡ Status.Done) ⊎ (result ≡ Status.WriteFault) ⊎ (result ≡ Status.NoMemory) }
     ensures no_memory { result ≡ Status.NoMemory → out.new ≡ out.old }
-    ensures faults { IsTold Status.WriteFault (change K.faults out.old out.new) result }
-    ensures wants { TellsWant heap.old heap.new result }
+    ensures faults { IsReported Status.WriteFault (change K.faults out.old out.new) result }
+    ensures allocations { ReportsNoMemory heap.old heap.new result }
 {
     match trial(heap, seed, pictures, out) {
         Ok(()) => Status::Done,

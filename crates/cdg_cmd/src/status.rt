@@ -418,7 +418,7 @@ fn error_line(status: Status) -> ErrorLine
 
 /// Writes the line of a status, with its line feed. `Done` has no line. After `Failed` a prefix of the line
 /// was written.
-pub fn tell<E: Sink>(err: &mut E, status: Status) -> Result<(), Failed>
+pub fn report_status<E: Sink>(err: &mut E, status: Status) -> Result<(), Failed>
     ensures ok { OnOk result (Appends (E.held err.old) (E.held err.new) (error_line status)) }
     ensures part { OnErr result (AppendsPrefix (E.held err.old) (E.held err.new) (error_line status)) }
     ensures cause { HasCause (E.faults err.old) (E.faults err.new) result }

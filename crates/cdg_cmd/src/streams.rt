@@ -1,13 +1,13 @@
 // The commands that play a stream.
 ghost use Rattle.std.specs.Prelude.{◌≢◌, ◌≤◌, ◌≡◌, ◌<◌};
 ghost use Rattle.disc_time.specs.Counts.{most_lead_in, time_count};
-ghost use Rattle.cdg_cmd.specs.Answer.{Does, LacksMemory};
+ghost use Rattle.cdg_cmd.specs.Answer.{Does, OutOfMemory};
 ghost use Rattle.cdg_io.specs.Change.{change};
 ghost use Rattle.cdg_io.specs.Reads.{input};
 ghost use Rattle.cdg_cmd.specs.Call.{one_input};
 ghost use Rattle.stream_stages.specs.Calls.{EndFirst, EndInTurn};
 ghost use Rattle.cdg_cmd.specs.Ends.{EndsAs, EndsAsListed};
-ghost use Rattle.cdg_cmd.specs.Faults.{TellsOne, TellsWant};
+ghost use Rattle.cdg_cmd.specs.Faults.{ReportsOne, ReportsNoMemory};
 ghost use Rattle.cdg_cmd.specs.Keeps.{MayWrite};
 ghost use Rattle.cdg_cmd.specs.Stops.{play_status};
 
@@ -31,7 +31,7 @@ pub(crate) fn run_check<S: Source, K: Sink>(
         (source.new, out.new)) result }
     ensures memory { result ≢ Status.NoMemory }
     ensures untouched { ¬ (MayWrite result) → out.new ≡ out.old }
-    ensures faults { TellsOne (change S.faults source.old source.new)
+    ensures faults { ReportsOne (change S.faults source.old source.new)
         (change K.faults out.old out.new) result }
     ensures ended { EndsAs play_status EndFirst (input S.Source source.old source.new) result }
 {
@@ -50,7 +50,7 @@ pub(crate) fn run_q<S: Source, K: Sink>(
     ensures does { Does (Command.Q lead_in form) (one_input S.left K.held (source.old, out.old)
         (source.new, out.new)) result }
     ensures memory { result ≢ Status.NoMemory }
-    ensures faults { TellsOne (change S.faults source.old source.new)
+    ensures faults { ReportsOne (change S.faults source.old source.new)
         (change K.faults out.old out.new) result }
     ensures ended { EndsAs play_status EndInTurn (input S.Source source.old source.new) result }
 {
@@ -58,7 +58,7 @@ pub(crate) fn run_q<S: Source, K: Sink>(
 }
 
 /// Writes the texts of the lead-in of a stream, after all of it is read.
-#[tactic(auto, using(crate::proofs::Played::told_none))]
+#[tactic(auto, using(crate::proofs::Played::reported_none))]
 pub(crate) fn run_text<S: Source, K: Sink>(
     heap: &mut Heap,
     lead_in: u32,
@@ -71,13 +71,13 @@ pub(crate) fn run_text<S: Source, K: Sink>(
     ensures does { result ≢ Status.NoMemory → Does (Command.Text lead_in form)
         (one_input S.left K.held (source.old, out.old) (source.new, out.new)) result }
     // If an allocation failed, nothing was read, or a whole input was read and its lead-in holds texts.
-    ensures no_memory { result ≡ Status.NoMemory → LacksMemory (Command.Text lead_in form)
+    ensures no_memory { result ≡ Status.NoMemory → OutOfMemory (Command.Text lead_in form)
         (one_input S.left K.held (source.old, out.old) (source.new, out.new)) }
     ensures untouched { ¬ (MayWrite result) → out.new ≡ out.old }
-    ensures faults { TellsOne (change S.faults source.old source.new)
+    ensures faults { ReportsOne (change S.faults source.old source.new)
         (change K.faults out.old out.new) result }
     ensures ended { EndsAsListed (input S.Source source.old source.new) result }
-    ensures wants { TellsWant heap.old heap.new result }
+    ensures allocations { ReportsNoMemory heap.old heap.new result }
 {
     match heap.asked(TextLister::start) {
         Ok(mut lister) => { play_status(list_texts(heap, &mut lister, lead_in, form, source, out)) }
@@ -86,7 +86,7 @@ pub(crate) fn run_text<S: Source, K: Sink>(
 }
 
 /// Writes the picture at a moment of a stream.
-#[tactic(auto, using(crate::proofs::Played::told_none))]
+#[tactic(auto, using(crate::proofs::Played::reported_none))]
 pub(crate) fn run_screen<S: Source, K: Sink>(
     heap: &mut Heap,
     lead_in: u32,
@@ -101,11 +101,11 @@ pub(crate) fn run_screen<S: Source, K: Sink>(
         (one_input S.left K.held (source.old, out.old) (source.new, out.new)) result }
     ensures no_memory { result ≡ Status.NoMemory → (source.new ≡ source.old) × (out.new ≡ out.old) }
     ensures untouched { ¬ (MayWrite result) → out.new ≡ out.old }
-    ensures faults { TellsOne (change S.faults source.old source.new)
+    ensures faults { ReportsOne (change S.faults source.old source.new)
         (change K.faults out.old out.new) result }
     ensures ended { result ≢ Status.NoMemory
         → EndsAs play_status EndFirst (input S.Source source.old source.new) result }
-    ensures wants { TellsWant heap.old heap.new result }
+    ensures allocations { ReportsNoMemory heap.old heap.new result }
 {
     match heap.asked(Viewer::start) {
         Ok(mut viewer) => play_status(viewer.screen_at(lead_in, form, at, source, out)),
@@ -114,7 +114,7 @@ pub(crate) fn run_screen<S: Source, K: Sink>(
 }
 
 /// Writes the state of the screen at a moment of a stream.
-#[tactic(auto, using(crate::proofs::Played::told_none))]
+#[tactic(auto, using(crate::proofs::Played::reported_none))]
 pub(crate) fn run_state<S: Source, K: Sink>(
     heap: &mut Heap,
     lead_in: u32,
@@ -129,11 +129,11 @@ pub(crate) fn run_state<S: Source, K: Sink>(
         (one_input S.left K.held (source.old, out.old) (source.new, out.new)) result }
     ensures no_memory { result ≡ Status.NoMemory → (source.new ≡ source.old) × (out.new ≡ out.old) }
     ensures untouched { ¬ (MayWrite result) → out.new ≡ out.old }
-    ensures faults { TellsOne (change S.faults source.old source.new)
+    ensures faults { ReportsOne (change S.faults source.old source.new)
         (change K.faults out.old out.new) result }
     ensures ended { result ≢ Status.NoMemory
         → EndsAs play_status EndFirst (input S.Source source.old source.new) result }
-    ensures wants { TellsWant heap.old heap.new result }
+    ensures allocations { ReportsNoMemory heap.old heap.new result }
 {
     match heap.asked(Viewer::start) {
         Ok(mut viewer) => play_status(viewer.state_at(lead_in, form, at, source, out)),

@@ -20,8 +20,8 @@ ghost use Rattle.cdg_io.specs.Reads.{input};
 ghost use Rattle.cdg_cmd.specs.Call.{call};
 ghost use Rattle.cdg_cmd.specs.Performs.{Performs};
 ghost use Rattle.cdg_cmd.specs.Answer.{GivesBack, GivesIfFound};
-ghost use Rattle.cdg_cmd.specs.Faults.{IsAnswered, NoneRose, TellsFaults, TellsWant};
-ghost use Rattle.cdg_cmd.specs.Told.{Tells};
+ghost use Rattle.cdg_cmd.specs.Faults.{IsAnswered, NoneRose, ReportsFaults, ReportsNoMemory};
+ghost use Rattle.cdg_cmd.specs.Reported.{ReportsStatus};
 ghost use Rattle.cdg_cmd.specs.Authors.{IsScriptText, IsSheetText};
 ghost use Rattle.cdg_cmd.specs.Headline.{HavePlace, IsDamagedCopy, PutsPicture, WritesOrIsLate, written_packs};
 ghost use Rattle.cdg_cmd.specs.LeadInTexts.{AreLinesOf};
@@ -31,7 +31,7 @@ ghost use Rattle.cdg_cmd.specs.Unpresses.{Unpresses};
 use crate::laws::commands_are_answered;
 use crate::making::{run_author, run_gen, run_press, run_trial};
 use crate::packs::{run_merge, run_planar, run_raw, run_resume, run_save, run_scratch, run_thin};
-use crate::status::{play_status, tell};
+use crate::status::{play_status, report_status};
 use crate::streams::{run_check, run_q, run_screen, run_state, run_text};
 use crate::{Command, Split, Status, read_words};
 use cdg_io::{Sink, Source};
@@ -81,7 +81,7 @@ pub fn split(line: &[String]) -> Split
 /// The status is the reason for the end of the run: `Usage` before anything is read; a refusal if its reason is the
 /// first that applies, in the order of the inputs; a fault if a source or the sink failed; `NoMemory` with an
 /// unchanged output.
-#[tactic(auto, using(crate::proofs::Told::tells))]
+#[tactic(auto, using(crate::proofs::Reported::reports))]
 pub fn run<S: Source, T: Source, K: Sink, E: Sink>(
     alloc: Global,
     words: &[String],
@@ -101,14 +101,14 @@ pub fn run<S: Source, T: Source, K: Sink, E: Sink>(
         (change K.held out.old out.new) (first.old, second.old, out.old)
         (first.new, second.new, out.new) result }
     // The status is a fault only if the count of this fault rose. No other count of faults rises.
-    ensures faults { TellsFaults (call S.faults T.faults K.faults (first.old, second.old, out.old)
+    ensures faults { ReportsFaults (call S.faults T.faults K.faults (first.old, second.old, out.old)
         (first.new, second.new, out.new)) result }
     // If the words are a command and no count rose, the status is no fault, and `does` gives the exact status.
     ensures complete { (command : Command) → Spells command (texts words.now)
         → NoneRose (call S.faults T.faults K.faults
         (first.old, second.old, out.old) (first.new, second.new, out.new)) → IsAnswered result }
     // The line of the status was written to the error output, or a prefix of it if its count of faults rose.
-    ensures told { Tells E.held E.faults err.old err.new result }
+    ensures reported { ReportsStatus E.held E.faults err.old err.new result }
 
     // For a sheet and a script that fit on a disc, an authored stream is written, or the status is the first late
     // picture.
@@ -174,7 +174,7 @@ pub fn run<S: Source, T: Source, K: Sink, E: Sink>(
     commands_are_answered();
     let status = answer(&mut Heap::new(alloc), words, first, second, out);
     // If this write fails, the status is unchanged.
-    let _told = tell(err, status);
+    let _reported = report_status(err, status);
     status
 }
 
@@ -193,9 +193,9 @@ fn answer<S: Source, T: Source, K: Sink>(
         (input S.Source first.old first.new) (input T.Source second.old second.new)
         (change K.held out.old out.new) (first.old, second.old, out.old)
         (first.new, second.new, out.new) result }
-    ensures faults { TellsFaults (call S.faults T.faults K.faults (first.old, second.old, out.old)
+    ensures faults { ReportsFaults (call S.faults T.faults K.faults (first.old, second.old, out.old)
         (first.new, second.new, out.new)) result }
-    ensures wants { TellsWant heap.old heap.new result }
+    ensures allocations { ReportsNoMemory heap.old heap.new result }
 {
     match read_words(words) {
         Some(command) => perform(heap, command, first, second, out),
@@ -217,9 +217,9 @@ pub fn perform<S: Source, T: Source, K: Sink>(
         (input S.Source first.old first.new) (input T.Source second.old second.new)
         (change K.held out.old out.new) (first.old, second.old, out.old)
         (first.new, second.new, out.new) result }
-    ensures faults { TellsFaults (call S.faults T.faults K.faults (first.old, second.old, out.old)
+    ensures faults { ReportsFaults (call S.faults T.faults K.faults (first.old, second.old, out.old)
         (first.new, second.new, out.new)) result }
-    ensures wants { TellsWant heap.old heap.new result }
+    ensures allocations { ReportsNoMemory heap.old heap.new result }
 {
     match command {
         Command::Convert { lead_in, form } => {

@@ -7,10 +7,10 @@ use Rattle.cdg_io.specs.Memory.{may_move}
 pub listed : (test answer : Bool) (seen fails : List ℕ) (call number : ℕ) → (IsTrue test ↔ Contains seen call)
     → test ≡ answer → seen ≡ fails → call ≡ number
     → IsTrue answer ↔ Contains fails number
-listed test answer seen fails call number tells is same here =
+listed test answer seen fails call number decides is same here =
     subst (λ (b : Bool). IsTrue b ↔ Contains fails number) is (subst
     (λ (l : List ℕ). IsTrue test ↔ Contains l number) same
-    (subst (λ (k : ℕ). IsTrue test ↔ Contains seen k) here tells))
+    (subst (λ (k : ℕ). IsTrue test ↔ Contains seen k) here decides))
 
 -- the number of bytes that a call moves
 pub moves : (n most wanted call number : ℕ) (from left seen cuts : List ℕ) → n ≡ min most (length from)

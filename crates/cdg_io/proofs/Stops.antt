@@ -7,8 +7,8 @@ use Rattle.std.proofs.lemmas.Bool.{cases_lt}
 use Rattle.std.proofs.lemmas.Slice.{take-put_mid_below}
 use Rattle.std.specs.Io.KnownBytes.{Consumes, IsAtEnd}
 use Rattle.std.proofs.KnownBytes.{Consumes-trans}
-use Rattle.cdg_io.specs.Causes.{Count, FillsRoom, HasCause, Rose, RoseOnce, TellsEnd, TellsFault}
-use Rattle.cdg_io.specs.Counts.{TellsRead, kept_counts}
+use Rattle.cdg_io.specs.Causes.{Count, FillsRoom, HasCause, Rose, RoseOnce, ReportsEnd, ReportsFault}
+use Rattle.cdg_io.specs.Counts.{ReportsRead, kept_counts}
 use Rattle.cdg_io.specs.declared.ends.Tally.{Tally}
 
 -- ---- faults
@@ -50,7 +50,7 @@ failed_cause (Ok value) before now err later rose = (cc)
 failed_cause (Err fault) before now err later rose = record { later = later; failed = rose; same = tt }
 
 pub failed_end : {E : Type 0} (r : Result ℕ E) (room : ℕ) (before now : Count) → IsErr r → now ≡ before
-    → TellsEnd room before now r
+    → ReportsEnd room before now r
 failed_end (Ok count) room before now err same = (cc)
 failed_end (Err fault) room before now err same = record { ended = tt; goes_on = tt; failed = same }
 
@@ -61,7 +61,7 @@ failed_room (Err fault) room before now err same = record { full = tt; short = t
 
 -- a failed read counts nothing
 pub nothing_read : {E : Type 0} (fault : E) (room : ℕ) (before now : Tally) → now ≡ before
-    → TellsRead {E = E} 1 room (kept_counts before now) (Err fault)
+    → ReportsRead {E = E} 1 room (kept_counts before now) (Err fault)
 nothing_read fault room before now same = record {
   end = record { ended = tt; goes_on = tt; failed = ap (λ (t : Tally). Some t.ends) same };
   room = record { full = tt; short = tt; failed = ap (λ (t : Tally). Some t.fills) same };
@@ -69,11 +69,11 @@ nothing_read fault room before now same = record {
 
 -- a read counts from an equal tally and with an equal room
 pub read_from : {E : Type 0} (count room room' : ℕ) (before mid now : Tally) → mid ≡ before → room ≡ room'
-    → TellsRead {E = E} 1 room (kept_counts mid now) (Ok count)
-    → TellsRead {E = E} 1 room' (kept_counts before now) (Ok count)
+    → ReportsRead {E = E} 1 room (kept_counts mid now) (Ok count)
+    → ReportsRead {E = E} 1 room' (kept_counts before now) (Ok count)
 read_from {E} count room room' before mid now same size read =
-    subst (λ (t : Tally). TellsRead {E = E} 1 room' (kept_counts t now) (Ok count)) same
-    (subst (λ (k : ℕ). TellsRead {E = E} 1 k (kept_counts mid now) (Ok count)) size read)
+    subst (λ (t : Tally). ReportsRead {E = E} 1 room' (kept_counts t now) (Ok count)) same
+    (subst (λ (k : ℕ). ReportsRead {E = E} 1 k (kept_counts mid now) (Ok count)) size read)
 
 -- ---- counts that were unchanged up to a moment
 
@@ -96,7 +96,7 @@ later_if_same same = omega (arith, same)
 
 -- the answer is not this fault, and no such fault was counted
 pub no_fault : {T E : Type 0} {fault : E} {before now : ℕ} {result : Result T E}
-    → (result ≡ Err fault → Rose before now) → now ≡ before → TellsFault fault before now result
+    → (result ≡ Err fault → Rose before now) → now ≡ before → ReportsFault fault before now result
 no_fault other same = record { later = later_if_same same; rose = other; same = λ _. same }
 
 -- ---- bytes

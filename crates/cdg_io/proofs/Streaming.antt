@@ -41,11 +41,12 @@ units_of-take size n bytes fits =
     (omega (arith, length-take-le (n * size) bytes fits)))
     ∙ ap (units_of size n) (take-append-drop (n * size) bytes)
 
--- `told` is the stop of the call at this stop of the pump
-pub record IsTold {E : Type 0} (torn_at : ℕ → E) (fault : E) (stop : PumpStop) (told : E) : Type 0 where
-  pub fault_kept : stop ≡ WriteFault → told ≡ fault
-  pub fault_only : told ≡ fault → stop ≡ WriteFault
-  pub torn_only : (unit : ℕ) → told ≡ torn_at unit → stop ≡ Torn unit
+-- `reported` is the stop of the call at this stop of the pump
+pub record IsReported {E : Type 0} (torn_at : ℕ → E) (fault : E) (stop : PumpStop) (reported : E) : Type
+    0 where
+  pub fault_kept : stop ≡ WriteFault → reported ≡ fault
+  pub fault_only : reported ≡ fault → stop ≡ WriteFault
+  pub torn_only : (unit : ℕ) → reported ≡ torn_at unit → stop ≡ Torn unit
 
 -- the bytes of an input and of an output that a stage moved
 abbrev pub bytes_of : {S : Type 0} → Moved S → Passed
@@ -108,21 +109,21 @@ module _ {S T E : Type 0} (reading : Reading T E) (machine : Machine S) (moved :
           in_turn = λ e. (cc);
         }
 
-    pub streams_stop : (stop : PumpStop) (told : E) → 1 < reading.cut.size
-        → IsTold reading.torn_at reading.write_fault stop told → Says → Runs (Err stop)
-        → Streams reading (bytes_of moved) (Err told) taken
-    streams_stop stop told some tells all p = record {
+    pub streams_stop : (stop : PumpStop) (reported : E) → 1 < reading.cut.size
+        → IsReported reading.torn_at reading.write_fault stop reported → Says → Runs (Err stop)
+        → Streams reading (bytes_of moved) (Err reported) taken
+    streams_stop stop reported some decides all p = record {
       taken_from = p.taken_from;
       within = p.within;
       done = tt;
-      torn = λ unit e. let same : told ≡ reading.torn_at unit = cc in
-          p.torn unit (ap pump_error (tells.torn_only unit same));
+      torn = λ unit e. let same : reported ≡ reading.torn_at unit = cc in
+          p.torn unit (ap pump_error (decides.torn_only unit same));
       put =
           λ h. put_all (Err stop) some all p
-          (λ e. let same : stop ≡ WriteFault = cc in h (ap (error T) (tells.fault_kept same)));
+          (λ e. let same : stop ≡ WriteFault = cc in h (ap (error T) (decides.fault_kept same)));
       in_turn = λ e.
-          let same : told ≡ reading.write_fault = cc in
-          let (n, below_limit, stops) = p.in_turn (ap pump_error (tells.fault_only same)) in
+          let same : reported ≡ reading.write_fault = cc in
+          let (n, below_limit, stops) = p.in_turn (ap pump_error (decides.fault_only same)) in
           let size = reading.cut.size in
           let next_size : (n + 1) * size ≡ n * size + size =
           ap (λ k. k * size) (omega arith) ∙ suc-mul n size in

@@ -51,12 +51,12 @@ IsUnlessFault (Err WriteFault) answer = ⊤
 IsUnlessFault result answer = result ≡ answer
 
 -- The count of ends rose if and only if the input was read to its end.
-abbrev pub TellsEndOf : Result Pumped PumpStop → Count → Count → Type 0
-TellsEndOf (Ok pumped) before now = RoseOnce before now
-TellsEndOf (Err (Torn unit)) before now = RoseOnce before now
-TellsEndOf (Err TooLong) before now = now ≡ before
-TellsEndOf (Err ReadFault) before now = now ≡ before
-TellsEndOf (Err WriteFault) before now = now ≡ before
+abbrev pub ReportsEndOf : Result Pumped PumpStop → Count → Count → Type 0
+ReportsEndOf (Ok pumped) before now = RoseOnce before now
+ReportsEndOf (Err (Torn unit)) before now = RoseOnce before now
+ReportsEndOf (Err TooLong) before now = now ≡ before
+ReportsEndOf (Err ReadFault) before now = now ≡ before
+ReportsEndOf (Err WriteFault) before now = now ≡ before
 
 -- A count is n more than before, if it is counted.
 abbrev pub RoseBy : ℕ → Count → Count → Type 0

@@ -1,7 +1,7 @@
 -- The bytes that reading a whole input consumed if it stopped, and the bytes that writing a whole piece appended.
 use Rattle.std.specs.Prelude.{◌≡◌, ℕ, ◌≤◌, IfOk, List, OnErr, Result, length}
 use Rattle.cdg_io.specs.Causes.{HasCause}
-use Rattle.cdg_io.specs.Counts.{TellsRead, counts}
+use Rattle.cdg_io.specs.Counts.{ReportsRead, counts}
 use Rattle.std.specs.Io.KnownBytes.{Consumes, IsAtEnd, Keeps}
 use Rattle.cdg_io.specs.Moves.{AppendsLess, ConsumesBelow}
 use Rattle.std.specs.declared.option.Option.{Option}
@@ -41,10 +41,10 @@ pub record ReadsWithin {S : Type 0} (left : S → Option (List ℕ)) (most : ℕ
   pub end : IsAtEnd (left after)
 
 -- A call reads up to `most` bytes and returns their number. If it read fewer, the input ended or a read failed.
-pub record ReadsUpTo {S E : Type 0} (tells : Source S) (most : ℕ) (before after : S)
+pub record ReadsUpTo {S E : Type 0} (source : Source S) (most : ℕ) (before after : S)
     (result : Result ℕ E) : Type 0 where
   pub within : IfOk result (λ n. n ≤ most)
-  pub part : OnErr result (ConsumesBelow (tells.left before) (tells.left after) most)
-  pub cut : OnErr result (StopsAtFault tells.left tells.faults most before after)
-  pub cause : HasCause (tells.faults before) (tells.faults after) result
-  pub counts : TellsRead most most (counts tells.ends tells.fills before after) result
+  pub part : OnErr result (ConsumesBelow (source.left before) (source.left after) most)
+  pub cut : OnErr result (StopsAtFault source.left source.faults most before after)
+  pub cause : HasCause (source.faults before) (source.faults after) result
+  pub counts : ReportsRead most most (counts source.ends source.fills before after) result

@@ -5,9 +5,9 @@ ghost use Rattle.std.specs.Io.Buffered.{reader_inner, reader_remaining};
 ghost use Rattle.std.specs.Io.KnownBytes.{Consumes, ReadConsumes, WriteAppends, Appends, Keeps};
 ghost use Rattle.std.specs.declared.alloc.Global.{Global};
 ghost use Rattle.std.specs.declared.io.buffered.BufReader.{BufReader};
-ghost use Rattle.cdg_io.specs.Causes.{Counted, CountedReader, HasCause, counted_after, nothing_told};
+ghost use Rattle.cdg_io.specs.Causes.{Counted, CountedReader, HasCause, counted_after, nothing_reported};
 ghost use Rattle.cdg_io.specs.Change.{from_to};
-ghost use Rattle.cdg_io.specs.Counts.{GivesFull, TellsRead, kept_counts};
+ghost use Rattle.cdg_io.specs.Counts.{GivesFull, ReportsRead, kept_counts};
 ghost use Rattle.cdg_io.specs.Moves.{TakesSome};
 ghost use Rattle.cdg_io.specs.Pump.{Works};
 ghost use Rattle.cdg_io.specs.Waiting.{Buffered, bytes_with_waiting};
@@ -35,7 +35,7 @@ impl<R: Read> Model for BufferedSource<R> {
 
 impl<R: Read> BufferedSource<R> {
     pub fn new(reader: BufReader<R>) -> Self
-        ensures { result ≡ record { inner = reader; faults = 0; tally = nothing_told } }
+        ensures { result ≡ record { inner = reader; faults = 0; tally = nothing_reported } }
     {
         BufferedSource {
             reader,
@@ -60,7 +60,7 @@ impl<R: Read> Source for BufferedSource<R> {
         ensures bytes { ReadConsumes (reader_remaining R.remaining self.old.inner)
             (reader_remaining R.remaining self.new.inner) result buf.new }
         ensures cause { HasCause self.old.faults self.new.faults result }
-        ensures counts { TellsRead 1 (length buf.old) (kept_counts self.old.tally self.new.tally) result }
+        ensures counts { ReportsRead 1 (length buf.old) (kept_counts self.old.tally self.new.tally) result }
         ensures counted { self.new.faults ≡ counted_after result self.old.faults }
     {
         read_counted(&mut self.reader, &mut self.faults, &mut self.tally, buf)

@@ -3,12 +3,12 @@ ghost use Rattle.std.specs.Prelude.{◌≡◌, ◌≢◌, ◌<◌, ◌≤◌, �
 ghost use Rattle.std.specs.Io.{ReadsAtMost};
 ghost use Rattle.std.specs.Io.KnownBytes.{Appends, Keeps, Consumes, ReadConsumes, WriteAppends};
 ghost use Rattle.std.specs.declared.option.Option.{Option};
-ghost use Rattle.cdg_io.specs.Causes.{CountedWrites, HasCause, Counted, CountedReader, counted_after, nothing_told};
+ghost use Rattle.cdg_io.specs.Causes.{CountedWrites, HasCause, Counted, CountedReader, counted_after, nothing_reported};
 ghost use Rattle.cdg_io.specs.declared.ends.Outcome.TheVariants.{Fault, Interrupted, Wrote};
 ghost use Rattle.std.specs.IoError.{error_kind};
 ghost use Rattle.std.specs.declared.io.Error.{Error};
 ghost use Rattle.cdg_io.specs.Change.{from_to, moved};
-ghost use Rattle.cdg_io.specs.Counts.{GivesFull, TellsRead, counts, kept_counts};
+ghost use Rattle.cdg_io.specs.Counts.{GivesFull, ReportsRead, counts, kept_counts};
 ghost use Rattle.cdg_io.specs.Moves.{TakesSome};
 ghost use Rattle.cdg_io.specs.Pump.{Works};
 
@@ -48,7 +48,7 @@ pub trait Source {
         ensures bound { ReadsAtMost result buf.new }
         ensures bytes { ReadConsumes (left self.old) (left self.new) result buf.new }
         ensures cause { HasCause (faults self.old) (faults self.new) result }
-        ensures counts { TellsRead 1 (length buf.old) (counts ends fills self.old self.new) result };
+        ensures counts { ReportsRead 1 (length buf.old) (counts ends fills self.old self.new) result };
 
     /// Feeds a whole unit from the buffer of the source to a stage, and leaves the output of the stage in
     /// `given`. This counts as one full read. If the buffer has no whole unit, it does nothing and returns
@@ -156,7 +156,7 @@ pub struct Tally {
 
 impl Tally {
     pub fn new() -> Tally
-        ensures { result ≡ nothing_told }
+        ensures { result ≡ nothing_reported }
     {
         Tally { ends: 0, fills: 0 }
     }
@@ -164,7 +164,7 @@ impl Tally {
     /// Counts a read of `count` bytes with room for `room` bytes.
     pub fn add(&mut self, count: usize, room: usize)
         requires { 0 < room }
-        ensures { TellsRead {E = Failed} 1 room (kept_counts self.old self.new) (Ok count) }
+        ensures { ReportsRead {E = Failed} 1 room (kept_counts self.old self.new) (Ok count) }
     {
         if count == 0 {
             self.ends = self.ends.saturating_add(1);
@@ -195,7 +195,7 @@ pub(crate) fn read_counted<R: Read>(
     ensures bytes { ReadConsumes (R.remaining reader.old) (R.remaining reader.new) result buf.new }
     ensures cause { HasCause faults.old faults.new result }
     ensures counted { faults.new ≡ counted_after result faults.old }
-    ensures counts { TellsRead 1 (length buf.old) (kept_counts tally.old tally.new) result }
+    ensures counts { ReportsRead 1 (length buf.old) (kept_counts tally.old tally.new) result }
 {
     match reader.read(buf) {
         Ok(count) => {
@@ -225,7 +225,7 @@ impl<R: Read> Model for ReadSource<R> {
 
 impl<R: Read> ReadSource<R> {
     pub fn new(reader: R) -> Self
-        ensures { result ≡ record { inner = reader; faults = 0; tally = nothing_told } }
+        ensures { result ≡ record { inner = reader; faults = 0; tally = nothing_reported } }
     {
         ReadSource {
             reader,
@@ -250,7 +250,7 @@ impl<R: Read> Source for ReadSource<R> {
         ensures bytes { ReadConsumes (R.remaining self.old.inner) (R.remaining self.new.inner) result
             buf.new }
         ensures cause { HasCause self.old.faults self.new.faults result }
-        ensures counts { TellsRead 1 (length buf.old) (kept_counts self.old.tally self.new.tally) result }
+        ensures counts { ReportsRead 1 (length buf.old) (kept_counts self.old.tally self.new.tally) result }
         ensures counted { self.new.faults ≡ counted_after result self.old.faults }
     {
         read_counted(&mut self.reader, &mut self.faults, &mut self.tally, buf)

@@ -5,7 +5,7 @@ use Rattle.std.proofs.lemmas.List.{append-nil}
 use Rattle.cdg_io.specs.Change.{Bytes, Change, Moved, from_to}
 use Rattle.cdg_io.specs.Pump.{Pumps, given}
 use Rattle.cdg_io.proofs.Frames.{machine_of, passing}
-use Rattle.cdg_io.proofs.Streaming.{IsTold, bytes_of, IsWhole, streams_done, streams_stop}
+use Rattle.cdg_io.proofs.Streaming.{IsReported, bytes_of, IsWhole, streams_done, streams_stop}
 use Rattle.cdg_io.specs.declared.pumping.Pumped.{Pumped}
 use Rattle.cdg_io.specs.declared.pumping.PumpStop.{PumpStop}
 use Rattle.cdg_io.specs.declared.pumping.PumpStop.TheVariants.{WriteFault, Torn}
@@ -26,8 +26,8 @@ module _ (moved : Moved Standing) (taken : List ℕ) (fresh : moved.state.before
     record { units = refl; written = given_is_thin moved.state.before bytes n fresh whole },
   )
 
-  told : (stop : PumpStop) → IsTold Torn WriteFault stop stop
-  told stop = record { fault_kept = λ e. e; fault_only = λ e. e; torn_only = λ n e. e }
+  reported : (stop : PumpStop) → IsReported Torn WriteFault stop stop
+  reported stop = record { fault_kept = λ e. e; fault_only = λ e. e; torn_only = λ n e. e }
 
   pub thins : (result : Result Pumped PumpStop)
       → Pumps thinning.cut (machine_of thin_next thin_gives) moved result taken
@@ -40,7 +40,8 @@ module _ (moved : Moved Standing) (taken : List ℕ) (fresh : moved.state.before
         written = given_is_thin moved.state.before taken pumped.units fresh whole;
       })
   thins (Err stop) p =
-      streams_stop thinning (machine_of thin_next thin_gives) moved taken stop stop (omega arith) (told stop)
+      streams_stop thinning (machine_of thin_next thin_gives) moved taken stop stop (omega arith)
+      (reported stop)
       says p
 
 -- the bytes consumed from an input that was read to its end are all its bytes

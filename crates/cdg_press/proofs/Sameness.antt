@@ -47,9 +47,9 @@ same_standing a b t =
       v = v i;
     }
 
-pub tells_same : (a b : Standing) → a ≡ b → is_same a b ≡ true
+pub reports_same : (a b : Standing) → a ≡ b → is_same a b ≡ true
 unfolding is_same
-tells_same a b same =
+reports_same a b same =
     true_both _ _ (true_both _ _ (true_both _ _ (true_both _ _ (true_both _ _
     ((rows_decide a.memory b.memory).1 (ap (λ (now : Standing). now.memory) same))
     ((Decides-eqb a.border b.border).1 (ap (λ (now : Standing). now.border) same)))
@@ -63,7 +63,7 @@ pub needless_if : (now : Standing) (instr : Instr) → is_graphic instr ≡ true
     → standing_after now (instr ∷ []) ≡ now
     → is_needless now instr ≡ true
 unfolding is_needless
-needless_if now instr graphic same = true_both _ _ graphic (tells_same _ _ same)
+needless_if now instr graphic same = true_both _ _ graphic (reports_same _ _ same)
 
 pub if_needless : (now : Standing) (instr : Instr) → is_needless now instr ≡ true
     → (is_graphic instr ≡ true) × (standing_after now (instr ∷ []) ≡ now)

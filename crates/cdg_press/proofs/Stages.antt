@@ -63,34 +63,34 @@ module _ (sheet : CueSheet) (file : List ℕ) (lead_in audio : ℕ) where
   earlier : (stop : PressStop) → IsPressStop sheet file lead_in audio stop → stop ≢ NoMemory → (i : ℕ)
       → i < stage stop
       → Passes i
-  earlier (PackTorn pack) h told i lt = absurd (omega (arith, lt))
-  earlier (LengthShort need) h told zero lt = h.0
-  earlier (LengthShort need) h told (suc i) lt = absurd (omega (arith, lt))
-  earlier (DiscTooLong blocks) h told zero lt = h.0
-  earlier (DiscTooLong blocks) h told (suc zero) lt = h.1
-  earlier (DiscTooLong blocks) h told (suc (suc i)) lt = absurd (omega (arith, lt))
-  earlier (Gap track) h told i lt = disc_passes h.0 i lt
-  earlier (CdgTooLong packs room) h told i lt = gap_passes h.0 h.1 i lt
-  earlier (TextTooLong packs) h told i lt = time_passes h.0 i lt
-  earlier (LeadInShort need) h told i lt = text_passes h.0 (λ some. h.1.1) i lt
-  earlier WriteFault h told i lt = elim (cases_lt i 6) [
+  earlier (PackTorn pack) h reported i lt = absurd (omega (arith, lt))
+  earlier (LengthShort need) h reported zero lt = h.0
+  earlier (LengthShort need) h reported (suc i) lt = absurd (omega (arith, lt))
+  earlier (DiscTooLong blocks) h reported zero lt = h.0
+  earlier (DiscTooLong blocks) h reported (suc zero) lt = h.1
+  earlier (DiscTooLong blocks) h reported (suc (suc i)) lt = absurd (omega (arith, lt))
+  earlier (Gap track) h reported i lt = disc_passes h.0 i lt
+  earlier (CdgTooLong packs room) h reported i lt = gap_passes h.0 h.1 i lt
+  earlier (TextTooLong packs) h reported i lt = time_passes h.0 i lt
+  earlier (LeadInShort need) h reported i lt = text_passes h.0 (λ some. h.1.1) i lt
+  earlier WriteFault h reported i lt = elim (cases_lt i 6) [
     | inl less ↦ text_passes h.in_time (λ some. (h.room some).0) i less
     | inr from ↦ (let last : 6 ≡ i = omega (arith, lt, from) in subst Passes last (λ some. (h.room some).1))
   ]
-  earlier NoMemory h told i lt = absurd (told refl)
+  earlier NoMemory h reported i lt = absurd (reported refl)
 
   -- and its own stage does not
   fails : (stop : PressStop) → IsPressStop sheet file lead_in audio stop → stop ≢ NoMemory
       → ¬ Passes (stage stop)
-  fails (PackTorn pack) h told = λ good. h.0 good
-  fails (LengthShort need) h told = λ good. omega (arith, h.2, good)
-  fails (DiscTooLong blocks) h told = λ good. omega (arith, h.2, h.3, good)
-  fails (Gap track) h told = λ good. omega (arith, h.1.2, good h.1.0 h.1.1)
-  fails (CdgTooLong packs room) h told = λ good. omega (arith, h.2, h.3, h.4, good)
-  fails (TextTooLong packs) h told = λ good. omega (arith, h.1.1, h.1.2, good h.1.0)
-  fails (LeadInShort need) h told = λ good. omega (arith, h.1.2, h.1.3, good h.1.0)
-  fails WriteFault h told = λ good. good
-  fails NoMemory h told = absurd (told refl)
+  fails (PackTorn pack) h reported = λ good. h.0 good
+  fails (LengthShort need) h reported = λ good. omega (arith, h.2, good)
+  fails (DiscTooLong blocks) h reported = λ good. omega (arith, h.2, h.3, good)
+  fails (Gap track) h reported = λ good. omega (arith, h.1.2, good h.1.0 h.1.1)
+  fails (CdgTooLong packs room) h reported = λ good. omega (arith, h.2, h.3, h.4, good)
+  fails (TextTooLong packs) h reported = λ good. omega (arith, h.1.1, h.1.2, good h.1.0)
+  fails (LeadInShort need) h reported = λ good. omega (arith, h.1.2, h.1.3, good h.1.0)
+  fails WriteFault h reported = λ good. good
+  fails NoMemory h reported = absurd (reported refl)
 
   -- each stage has one reason
   same : (stop other : PressStop) → stage stop ≡ stage other → IsPressStop sheet file lead_in audio stop
@@ -119,10 +119,10 @@ module _ (sheet : CueSheet) (file : List ℕ) (lead_in audio : ℕ) where
   pub one_reason : (stop other : PressStop) → IsPressStop sheet file lead_in audio stop
       → IsPressStop sheet file lead_in audio other → stop ≢ NoMemory → other ≢ NoMemory
       → stop ≡ other
-  one_reason stop other h h' told told' = elim (cases_lt (stage stop) (stage other)) [
-    | inl less ↦ absurd (fails stop h told (earlier other h' told' (stage stop) less))
+  one_reason stop other h h' reported reported' = elim (cases_lt (stage stop) (stage other)) [
+    | inl less ↦ absurd (fails stop h reported (earlier other h' reported' (stage stop) less))
     | inr from ↦ elim (cases_lt (stage other) (stage stop)) [
-      | inl less ↦ absurd (fails other h' told' (earlier stop h told (stage other) less))
+      | inl less ↦ absurd (fails other h' reported' (earlier stop h reported (stage other) less))
       | inr to ↦ same stop other (omega (arith, from, to)) h h'
     ]
   ]

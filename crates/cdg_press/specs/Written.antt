@@ -1,7 +1,7 @@
 -- The output of a call that presses a file into a stream.
 use Rattle.std.specs.Prelude.{◌≡◌, ◌≢◌, ℕ, List, Result, Err, IfErr, OnOk}
 use Rattle.std.specs.Io.KnownBytes.{Appends}
-use Rattle.cdg_io.specs.Causes.{TellsFault}
+use Rattle.cdg_io.specs.Causes.{ReportsFault}
 use Rattle.cdg_io.specs.Change.{Bytes, change}
 use Rattle.cdg_io.specs.Moves.{AppendsPrefix}
 use Rattle.toc_model.specs.Places.{layout_of}
@@ -19,7 +19,7 @@ pub record WritesPressed {T K : Type 0} (held : K → Bytes) (faults : K → ℕ
       × Appends (held before) (held after) bytes)
   -- if the call stopped for any other reason than a failed write, the output is unchanged
   pub untouched : IfErr result (λ stop. stop ≢ WriteFault → after ≡ before)
-  pub write_fault : TellsFault WriteFault (faults before) (faults after) result
+  pub write_fault : ReportsFault WriteFault (faults before) (faults after) result
   -- a write failed, and a prefix of the lead-in and of program blocks with packs of the file was written
   pub part : result ≡ Err WriteFault → (n : ℕ) × (packs : List (List ℕ))
       × PutsStreamPart (framing_of (layout_of press.sheet press.audio) (text_packs press.sheet) press.lead_in)

@@ -2,7 +2,7 @@
 ghost use Rattle.std.specs.Prelude.{◌≡◌, ◌*◌, List, ℕ, [], ◌∷◌, length, IfOk, IfSome, Some, ◌/◌, IsTrue};
 ghost use Rattle.std.specs.List.{concat};
 ghost use Rattle.cdg_instructions.specs.Instruction.{InRange};
-ghost use Rattle.cdg_io.specs.Causes.{TellsFault};
+ghost use Rattle.cdg_io.specs.Causes.{ReportsFault};
 ghost use Rattle.cdg_io.specs.Change.{change, passed};
 ghost use Rattle.cdg_io.specs.Pump.{units_of};
 ghost use Rattle.cdg_io.specs.Reads.{ReadsUnits};
@@ -77,7 +77,7 @@ impl Thinner {
             (λ all. ThinsAll all (change K.held out.old out.new) result) }
         ensures reads { ReadsUnits S.Source symbols_a_slot most_file_packs
             source.old source.new result }
-        ensures write_fault { TellsFault PumpStop.WriteFault
+        ensures write_fault { ReportsFault PumpStop.WriteFault
             (K.faults out.old) (K.faults out.new) result }
     {
         thin_forms_stand_alike();

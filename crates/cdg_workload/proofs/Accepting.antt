@@ -9,7 +9,7 @@ use Rattle.std.specs.List.{range_with_len, filter_map}
 use Rattle.bit_lists.specs.Counting.{below}
 use Rattle.picture_script.specs.Script.{Drawing, Show, shown_times, shows, pictures, hold_time}
 use Rattle.picture_script.specs.ScriptGrammar.{grown, checked_lines, is_after_hold}
-use Rattle.picture_script.proofs.Refusals.{one_taken, reading_ends, step_heard}
+use Rattle.picture_script.proofs.Refusals.{one_taken, reading_ends, step_read}
 use Rattle.picture_script.specs.declared.reasons.ScriptWhy.{ScriptWhy}
 use Rattle.cdg_workload.specs.Generator.{generator_word}
 use Rattle.cdg_workload.specs.Generated.{grey, rect, picture}
@@ -22,7 +22,7 @@ accept_one : (n : ℕ) (before : List Drawing) (line : List ℕ) (rest : List (L
     → IsAccepted before line said
     → checked_lines n before (line ∷ rest) ≡ checked_lines (n + 1) (before ++ said ∷ []) rest
 accept_one n before line rest said is = one_taken n before (before ++ said ∷ []) line rest
-    (step_heard before line is.heard ∙ ap (grown before) is.read)
+    (step_read before line is.heard ∙ ap (grown before) is.read)
 
 -- ---- Greys.
 

@@ -41,10 +41,10 @@ printable_more (b ∷ w) rest all others =
     and_from (nat_le 32 b) (all_from 32 (w ++ 32 ∷ rest)) (le-leb 32 b (omega arith))
     (printable_more w rest more others)
 
-heard_line : (b : ℕ) (rest : List ℕ) → (b == 32 || b == 9) ≡ false → (b == 35) ≡ false
+read_line_is : (b : ℕ) (rest : List ℕ) → (b == 32 || b == 9) ≡ false → (b == 35) ≡ false
     → is_passed_over (b ∷ rest) ≡ false
 unfolding without_blanks
-heard_line b rest blank remark =
+read_line_is b rest blank remark =
     let whole : without_blanks (b ∷ rest) ≡ b ∷ rest =
     ap (λ t. cond t (without_blanks rest) (b ∷ rest)) blank in
     ap (λ l. length l == 0 || get_or l 0 0 == 35) whole
@@ -151,7 +151,7 @@ rect_accepted_at : (before : List Drawing) (x y w h k : ℕ) → AreSmall x y w 
 unfolding rect_text
 rect_accepted_at before x y w h k small = record {
   printable = rect_printable x y w h k small;
-  heard = heard_line 114 _ refl refl;
+  heard = read_line_is 114 _ refl refl;
   read = ap (checked_words before) (rect_words x y w h k small) ∙ rect_read before x y w h k small;
 }
 
@@ -232,7 +232,7 @@ grey_accepted before k lt =
       printable = printable_more (codes "colour") (decimal k ++ 32 ∷ grey_value k) refl
           (printable_more (decimal k) (grey_value k) (decimal_graphic k k_lt)
           (weaker (grey_value k) graphic));
-      heard = heard_line 99 _ refl refl;
+      heard = read_line_is 99 _ refl refl;
       read = ap (checked_words before) words
           ∙ ap₂ (λ (n v : Option ℕ). checked_line before (colour_of n v)) (number_of_decimal k k_lt) value
           ∙ ap (λ t. unless_refused (grey k) (cond t None (Some OutOfRange))) (lt-ltb k 16 lt);
@@ -293,7 +293,7 @@ show_accepted before k lt few later =
       printable = printable_more (codes "show") (time_text r ++ 32 ∷ time_text h) refl
           (printable_more (time_text r) (time_text h) (time_graphic r r_lt)
           (weaker (time_text h) (time_graphic h h_lt)));
-      heard = heard_line 115 _ refl refl;
+      heard = read_line_is 115 _ refl refl;
       read = ap (checked_words before) words
           ∙ ap₂ (λ (a b : Option ℕ). checked_line before (show_of a b)) (time_is r r_lt) (time_is h h_lt)
           ∙ ap₂ (λ (s t : Bool). unless_refused (Show r h)

@@ -3,7 +3,7 @@ ghost use Rattle.std.specs.Prelude.{◌≡◌, ◌≤◌, ◌+◌, ◌*◌, ◌/
 ghost use Rattle.std.specs.List.{concat};
 ghost use Rattle.disc_time.specs.Counts.{most_lead_in};
 ghost use Rattle.raw_subcode.specs.Sizes.{block_bytes, most_units};
-ghost use Rattle.cdg_io.specs.Causes.{TellsFault};
+ghost use Rattle.cdg_io.specs.Causes.{ReportsFault};
 ghost use Rattle.cdg_io.specs.Change.{passed};
 ghost use Rattle.cdg_io.specs.Pump.{units_of};
 ghost use Rattle.cdg_io.specs.Reads.{ReadsUnits};
@@ -134,7 +134,7 @@ pub fn scratch<S: Source, K: Sink>(
         (passed S.left K.held (source.old, out.old) (source.new, out.new)) result taken }
     ensures reads { ReadsUnits S.Source block_bytes most_units source.old
         source.new result }
-    ensures write_fault { TellsFault PumpStop.WriteFault (K.faults out.old) (K.faults out.new) result }
+    ensures write_fault { ReportsFault PumpStop.WriteFault (K.faults out.old) (K.faults out.new) result }
 {
     let mut scratches = Scratches::start(lead_in, seed);
     pump_units(source, MOST_UNITS, &mut scratches, out)

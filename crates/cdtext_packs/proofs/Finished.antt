@@ -76,7 +76,8 @@ all_sizes kept now a b third same some first second is whole =
     ∙ with_all kept a b third whole
 
 -- a refusal is reported unchanged
-pub told_as_is : (read : Result Texts TextFault) (fault : TextFault) → read ≡ Err fault
-    → IfErr read (λ told. ◌≡◌ {A = Result Texts TextFault} (Err fault) (Err told))
-told_as_is read fault same =
-    subst (λ r. IfErr r (λ told. ◌≡◌ {A = Result Texts TextFault} (Err fault) (Err told))) (sym same) refl
+pub reported_as_is : (read : Result Texts TextFault) (fault : TextFault) → read ≡ Err fault
+    → IfErr read (λ reported. ◌≡◌ {A = Result Texts TextFault} (Err fault) (Err reported))
+reported_as_is read fault same =
+    subst (λ r. IfErr r (λ reported. ◌≡◌ {A = Result Texts TextFault} (Err fault) (Err reported))) (sym same)
+    refl

@@ -35,12 +35,12 @@ pub record Judges (said : CueState) (judge : SheetJudge) : Type 0 where
   pub section : Marks said.section judge.section
 
 -- The reader is in its state after these lines. It has a draft if there was memory for it.
-pub record Heard (said : CueState) (reader : SheetReader) : Type 0 where
+pub record HasReadLines (said : CueState) (reader : SheetReader) : Type 0 where
   pub judged : Judges said reader.judge
   pub kept : IfSome reader.draft (λ draft. draft ≡ stripped said)
 
 -- If the line is accepted after these lines, the reader is in its state after the line. If not, the result has the reason.
-abbrev pub Hears : CueState → List ℕ → SheetReader → Result (Unit {0}) CueWhy → Type 0
-Hears said line reader result =
-    MatchResult result (λ _. (next : CueState) × TakesLine said line next × Heard next reader)
+abbrev pub ReadsCueLine : CueState → List ℕ → SheetReader → Result (Unit {0}) CueWhy → Type 0
+ReadsCueLine said line reader result =
+    MatchResult result (λ _. (next : CueState) × TakesLine said line next × HasReadLines next reader)
     (λ why. sheet_step said line ≡ Err why)

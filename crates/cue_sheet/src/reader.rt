@@ -171,11 +171,11 @@ pub(crate) struct SheetReader {
 }
 
 impl SheetReader {
-    ghost use Rattle.cue_sheet.specs.Judging.{Heard, Hears};
+    ghost use Rattle.cue_sheet.specs.Judging.{HasReadLines, ReadsCueLine};
 
     /// A reader before the first line.
     pub(crate) fn new(alloc: Global) -> SheetReader
-        ensures { Heard nothing_said result }
+        ensures { HasReadLines nothing_said result }
     {
         SheetReader {
             judge: SheetJudge::default(),
@@ -191,7 +191,8 @@ impl SheetReader {
     // Reads a line, or returns the first reason to refuse it.
     fn take(&mut self, alloc: Global, line: &[u8]) -> Result<(), CueWhy>
         requires { length line.now ≤ most_text_bytes }
-        ensures { (said : CueState) → Heard said self.old → Hears said line.now self.new result }
+        ensures { (said : CueState) → HasReadLines said self.old
+            → ReadsCueLine said line.now self.new result }
     {
         let line = trim(line);
         if line.is_empty() {
@@ -212,8 +213,8 @@ impl SheetReader {
     /// Reads a whole text, or its lines up to the first refused one.
     pub(crate) fn read(&mut self, alloc: Global, text: &[u8]) -> Result<(), CueStop>
         requires size { length text.now ≤ most_text_bytes }
-        requires fresh { Heard nothing_said self.old }
-        ensures sheet { OnOk result ((said : CueState) × Heard said self.new
+        requires fresh { HasReadLines nothing_said self.old }
+        ensures sheet { OnOk result ((said : CueState) × HasReadLines said self.new
             × (read_cue text.now ≡ Ok (sheet_said said)) × IsSheet (sheet_said said)) }
         ensures stop { IfErr result (λ stop. IsCueAnswer (read_cue text.now) (Err stop)) }
     {

@@ -8,7 +8,7 @@ use Rattle.picture_script.specs.Script.{Drawing, pictures}
 use Rattle.picture_script.specs.ScriptGrammar.{read_script}
 use Rattle.picture_script.specs.ShowLines.{show_lines}
 use Rattle.subcode_author.specs.AuthorAnswer.{HasRoom, HoldsPictures, IsDiscRefusal}
-use Rattle.disc_plan.specs.PictureRows.{is_late, AreToldRows}
+use Rattle.disc_plan.specs.PictureRows.{is_late, ArePlannedRows}
 use Rattle.disc_plan.specs.declared.plan.PlannedDisc.{PlannedDisc}
 use Rattle.disc_plan.specs.declared.picture_rows.PlannedRow.{PlannedRow}
 use Rattle.disc_plan.specs.declared.stops.PlanStop.{PlanStop}
@@ -76,11 +76,11 @@ IsPlanStop disc room NoMemory = (sheet : CueSheet) × (script : List Drawing) ×
 IsPlanStop disc room stop = IsPlanSheetStop disc.sheet stop
 
 -- These are the rows of the plan of a disc, and its numbers.
-pub record IsPlan (disc : DiscTexts) (rows : List PlannedRow) (told : PlannedDisc) : Type 0 where
+pub record IsPlan (disc : DiscTexts) (rows : List PlannedRow) (report : PlannedDisc) : Type 0 where
   pub sheet : CueSheet
   pub script : List Drawing
   pub has_plan : HasPlan disc sheet script
-  pub pictures_are : told.pictures ≡ pictures script
-  pub blocks_are : told.blocks ≡ program_blocks sheet disc.audio
-  pub rows_are : AreToldRows script (show_lines disc.script) told.pictures rows
-  pub late_are : told.late ≡ count_by is_late (take told.pictures rows)
+  pub pictures_are : report.pictures ≡ pictures script
+  pub blocks_are : report.blocks ≡ program_blocks sheet disc.audio
+  pub rows_are : ArePlannedRows script (show_lines disc.script) report.pictures rows
+  pub late_are : report.late ≡ count_by is_late (take report.pictures rows)

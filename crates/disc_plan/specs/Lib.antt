@@ -1,4 +1,4 @@
-pub mod Told
+pub mod Reports
 pub mod SheetRows
 pub mod PictureRows
 pub mod Discs

@@ -9,8 +9,8 @@ abbrev pub no_disc_row : PlannedRow
 no_disc_row = record { line = 0; ready = 0; hold = 0; need = 0; free = 0; first = 0; late = 0 }
 
 -- the row of a picture with this `show` line
-abbrev pub told_row : ℕ → PlanRow → PlannedRow
-told_row line plan = record {
+abbrev pub planned_row : ℕ → PlanRow → PlannedRow
+planned_row line plan = record {
   line = line;
   ready = plan.ready;
   hold = plan.hold;
@@ -25,10 +25,10 @@ abbrev pub is_late : PlannedRow → Bool
 is_late row = row.late == 1
 
 -- The row is that of picture k, with this `show` line.
-abbrev pub IsToldRow : List Drawing → ℕ → ℕ → PlannedRow → Type 0
-IsToldRow script line k row = (plan : PlanRow) × IsPlanRow script k plan × (row ≡ told_row line plan)
+abbrev pub IsPlannedRow : List Drawing → ℕ → ℕ → PlannedRow → Type 0
+IsPlannedRow script line k row = (plan : PlanRow) × IsPlanRow script k plan × (row ≡ planned_row line plan)
 
 -- The rows are those of the first `count` pictures, with these `show` lines.
-abbrev pub AreToldRows : List Drawing → List ℕ → ℕ → List PlannedRow → Type 0
-AreToldRows script lines count rows = (k : ℕ) → k < count
-    → IsToldRow script (slice_index lines k) k (slice_index_or rows k no_disc_row)
+abbrev pub ArePlannedRows : List Drawing → List ℕ → ℕ → List PlannedRow → Type 0
+ArePlannedRows script lines count rows = (k : ℕ) → k < count
+    → IsPlannedRow script (slice_index lines k) k (slice_index_or rows k no_disc_row)

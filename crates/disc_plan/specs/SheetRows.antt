@@ -6,9 +6,9 @@ use Rattle.cue_sheet.specs.CueSheet.{CueSheet, CueTrack, text_at}
 use Rattle.cue_sheet.specs.Grammar.{read_cue}
 use Rattle.cue_sheet.specs.declared.fault.CueText.{CueText}
 use Rattle.cue_sheet.specs.declared.fault.CueWhy.{CueWhy}
-use Rattle.disc_plan.specs.Told.{cue_number}
+use Rattle.disc_plan.specs.Reports.{cue_number}
 use Rattle.disc_plan.specs.declared.index_rows.SheetRow.{SheetRow}
-use Rattle.disc_plan.specs.declared.told.ToldSheet.{ToldSheet}
+use Rattle.disc_plan.specs.declared.reports.SheetReport.{SheetReport}
 use Rattle.disc_plan.specs.declared.stops.SheetStop.{SheetStop}
 use Rattle.disc_plan.specs.declared.stops.SheetStop.TheVariants.{TooLong, Fault, NoRoom, NoMemory}
 use Rattle.disc_plan.specs.declared.stops.TextStop.{TextStop}
@@ -46,8 +46,8 @@ abbrev pub sheet_rows : CueSheet → List SheetRow
 sheet_rows sheet = flat_map track_rows sheet.tracks
 
 -- the counts of a sheet
-abbrev pub told_sheet : CueSheet → ToldSheet
-told_sheet sheet = record {
+abbrev pub sheet_report : CueSheet → SheetReport
+sheet_report sheet = record {
   rows = length (sheet_rows sheet);
   tracks = length sheet.tracks;
   line = 0;
@@ -57,8 +57,8 @@ told_sheet sheet = record {
 }
 
 -- the result for a refused sheet: the refused line and the number of the reason
-abbrev pub told_refusal : ℕ → CueWhy → ToldSheet
-told_refusal line why = record {
+abbrev pub refusal_report : ℕ → CueWhy → SheetReport
+refusal_report line why = record {
   rows = 0;
   tracks = 0;
   line = line;
@@ -72,16 +72,16 @@ abbrev pub IsTextOfSheet : List ℕ → CueSheet → Type 0
 IsTextOfSheet text sheet = (length text ≤ most_text_bytes) × (read_cue text ≡ Ok sheet)
 
 -- The rows of the sheet are at the front of the new rows, and these are its counts.
-abbrev pub AreRowsOf : List ℕ → List SheetRow → List SheetRow → ToldSheet → Type 0
-AreRowsOf text old new told = (sheet : CueSheet) × IsTextOfSheet text sheet × (told ≡ told_sheet sheet)
+abbrev pub AreRowsOf : List ℕ → List SheetRow → List SheetRow → SheetReport → Type 0
+AreRowsOf text old new report = (sheet : CueSheet) × IsTextOfSheet text sheet × (report ≡ sheet_report sheet)
     × (new ≡ sheet_rows sheet ++ drop (length (sheet_rows sheet)) old)
 
 -- This is the reason why a sheet has no rows in this room. `NoMemory` is possible only if the text has a sheet.
 abbrev pub IsRowsStop : List ℕ → ℕ → SheetStop → Type 0
 IsRowsStop text room TooLong = most_text_bytes < length text
 IsRowsStop text room (Fault line why) = (length text ≤ most_text_bytes) × (read_cue text ≡ Err (line, why))
-IsRowsStop text room (NoRoom told) = (sheet : CueSheet) × IsTextOfSheet text sheet
-    × (told ≡ told_sheet sheet) × (room < length (sheet_rows sheet))
+IsRowsStop text room (NoRoom report) = (sheet : CueSheet) × IsTextOfSheet text sheet
+    × (report ≡ sheet_report sheet) × (room < length (sheet_rows sheet))
 IsRowsStop text room NoMemory = (sheet : CueSheet) × IsTextOfSheet text sheet
 
 -- A text of the sheet is at the front of the new bytes, with this length.

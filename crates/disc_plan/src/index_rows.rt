@@ -1,11 +1,11 @@
 // A cue sheet as rows: one row for each index line.
 ghost use Rattle.std.specs.Prelude.{◌≡◌, ◌<◌, ◌≤◌, ◌+◌, ◌++◌, drop, length, take, IfSome, IsTrue, option_copied, IfErr, IfOk, OnErr};
-ghost use Rattle.cdg_io.specs.Causes.{TellsFault};
+ghost use Rattle.cdg_io.specs.Causes.{ReportsFault};
 ghost use Rattle.cue_sheet.specs.CueSheet.{index_line_of, track_of, is_capital_code, is_catalogue_number};
 ghost use Rattle.disc_plan.specs.SheetRows.{sheet_row, sheet_rows, track_rows, flag_of, or_zeros, AreRowsOf, IsRowsStop};
 
+use crate::reports::{SheetReport, sheet_report};
 use crate::stops::SheetStop;
-use crate::told::{ToldSheet, told_sheet};
 use cue_sheet::{CueStop, Sheet};
 use disc_time::{CATALOGUE_DIGITS, ISRC_CHARACTERS};
 use subcode_author::Heap;
@@ -38,12 +38,12 @@ pub fn sheet_rows(
     heap: &mut Heap,
     text: &[u8],
     rows: &mut [SheetRow],
-) -> Result<ToldSheet, SheetStop>
+) -> Result<SheetReport, SheetStop>
     ensures rows { IfOk result (AreRowsOf text.now rows.old rows.new) }
     ensures stop { IfErr result (IsRowsStop text.now (length rows.old)) }
     ensures untouched { OnErr result (rows.new ≡ rows.old) }
     // The error is `NoMemory` exactly if a request for memory failed.
-    ensures wants { TellsFault SheetStop.NoMemory heap.old heap.new result }
+    ensures allocations { ReportsFault SheetStop.NoMemory heap.old heap.new result }
 {
     if text.len() > MOST_TEXT_BYTES {
         return Err(SheetStop::TooLong);
@@ -53,12 +53,12 @@ pub fn sheet_rows(
         Err(CueStop::Fault { line, why }) => return Err(SheetStop::Fault { line, why }),
         Err(CueStop::NoMemory) => return Err(SheetStop::NoMemory),
     };
-    let told = told_sheet(&sheet);
-    if told.rows as usize > rows.len() {
-        return Err(SheetStop::NoRoom { told });
+    let report = sheet_report(&sheet);
+    if report.rows as usize > rows.len() {
+        return Err(SheetStop::NoRoom { report });
     }
     write_rows(&sheet, rows);
-    Ok(told)
+    Ok(report)
 }
 
 /// The number of index lines of a sheet, at most 9,900.

@@ -5,13 +5,13 @@ mod index_rows;
 mod picture_rows;
 mod plan;
 mod reading;
+mod reports;
 mod stops;
 mod text;
-mod told;
 
 pub use index_rows::{SheetRow, sheet_rows};
 pub use picture_rows::PlannedRow;
 pub use plan::{PlannedDisc, plan_disc};
+pub use reports::{PlanReport, SheetReport, plan_report, refusal_report, stop_report};
 pub use stops::{PlanStop, SheetStop, TextStop};
 pub use text::sheet_text;
-pub use told::{ToldPlan, ToldSheet, told_plan, told_refusal, told_stop};

@@ -5,7 +5,7 @@ ghost use Rattle.text_lines.specs.Text.{most_text_bytes};
 ghost use Rattle.picture_script.specs.Script.{pictures};
 ghost use Rattle.picture_script.specs.ScriptGrammar.{read_script};
 ghost use Rattle.picture_script.specs.ShowLines.{show_lines};
-ghost use Rattle.disc_plan.specs.PictureRows.{is_late, told_row, AreToldRows};
+ghost use Rattle.disc_plan.specs.PictureRows.{is_late, planned_row, ArePlannedRows};
 
 use pack_schedule::{PlanRow, Planner};
 use picture_script::{Script, ShowLines, each_picture_has_a_line};
@@ -33,8 +33,8 @@ pub struct PlannedRow {
 }
 
 // The row of a picture with this `show` line.
-fn told_row(line: u32, plan: &PlanRow) -> PlannedRow
-    ensures { result ≡ told_row line plan.now }
+fn planned_row(line: u32, plan: &PlanRow) -> PlannedRow
+    ensures { result ≡ planned_row line plan.now }
 {
     PlannedRow {
         line,
@@ -58,7 +58,8 @@ pub(crate) fn write_rows(
     requires read { read_script text.now ≡ Ok script.now }
     requires text { length text.now ≤ most_text_bytes }
     requires room { pictures script.now ≤ length rows.old }
-    ensures rows { OnOk result (AreToldRows script.now (show_lines text.now) (pictures script.now) rows.new) }
+    ensures rows { OnOk result
+        (ArePlannedRows script.now (show_lines text.now) (pictures script.now) rows.new) }
     ensures rest { drop (pictures script.now) rows.new ≡ drop (pictures script.now) rows.old }
     ensures late { IfOk result (λ late. late ≡ count_by is_late (take (pictures script.now) rows.new)) }
     ensures untouched { OnErr result (rows.new ≡ rows.old) }
@@ -75,7 +76,7 @@ pub(crate) fn write_rows(
         let Some(line) = lines.next_number() else {
             unreachable!();
         };
-        rows[k] = told_row(line, &plan);
+        rows[k] = planned_row(line, &plan);
         if plan.late {
             late += 1;
         }

@@ -36,12 +36,12 @@ pub fn plan_disc(
 ) -> Result<PlannedDisc, PlanStop>
     requires { audio ≤ most_program }
     ensures plan { IfOk result (IsPlan (planned_disc sheet.now script.now lead_in audio) rows.new) }
-    ensures rest { IfOk result (λ told. drop told.pictures rows.new ≡ drop told.pictures rows.old) }
+    ensures rest { IfOk result (λ report. drop report.pictures rows.new ≡ drop report.pictures rows.old) }
     ensures stop { IfErr result (IsPlanStop (planned_disc sheet.now script.now lead_in audio)
         (length rows.old)) }
     ensures untouched { OnErr result (rows.new ≡ rows.old) }
     // `NoMemory` is returned only if a request for memory failed.
-    ensures wants { result ≡ Err PlanStop.NoMemory → Rose heap.old heap.new }
+    ensures allocations { result ≡ Err PlanStop.NoMemory → Rose heap.old heap.new }
     // If there is a plan, no request failed.
     ensures found { OnOk result (heap.new ≡ heap.old) }
     ensures later { heap.old ≤ heap.new }

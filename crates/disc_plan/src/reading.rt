@@ -1,7 +1,7 @@
 // Reads the texts of a disc.
 ghost use Rattle.std.specs.Prelude.{◌≡◌, ◌≢◌, ◌<◌, ◌≤◌, Ok, IfErr, IfOk, length};
 ghost use Rattle.text_lines.specs.Text.{most_text_bytes};
-ghost use Rattle.cdg_io.specs.Causes.{TellsFault};
+ghost use Rattle.cdg_io.specs.Causes.{ReportsFault};
 ghost use Rattle.cue_sheet.specs.Grammar.{read_cue};
 ghost use Rattle.picture_script.specs.ScriptGrammar.{read_script};
 ghost use Rattle.disc_plan.specs.Discs.{IsPlanSheetStop, IsPlanScriptStop};
@@ -17,7 +17,7 @@ pub(crate) fn read_sheet(heap: &mut Heap, text: &[u8]) -> Result<Sheet, PlanStop
     ensures read { IfOk result (λ sheet. read_cue text.now ≡ Ok sheet) }
     ensures few { IfOk result (λ _. length text.now ≤ most_text_bytes) }
     ensures stop { IfErr result (IsPlanSheetStop text.now) }
-    ensures wants { TellsFault PlanStop.NoMemory heap.old heap.new result }
+    ensures allocations { ReportsFault PlanStop.NoMemory heap.old heap.new result }
 {
     if text.len() > MOST_TEXT_BYTES {
         return Err(PlanStop::SheetTooLong);
@@ -34,7 +34,7 @@ pub(crate) fn read_script(heap: &mut Heap, text: &[u8]) -> Result<Script, PlanSt
     ensures read { IfOk result (λ script. read_script text.now ≡ Ok script) }
     ensures few { IfOk result (λ _. length text.now ≤ most_text_bytes) }
     ensures stop { IfErr result (IsPlanScriptStop text.now) }
-    ensures wants { TellsFault PlanStop.NoMemory heap.old heap.new result }
+    ensures allocations { ReportsFault PlanStop.NoMemory heap.old heap.new result }
 {
     if text.len() > MOST_TEXT_BYTES {
         return Err(PlanStop::ScriptTooLong);

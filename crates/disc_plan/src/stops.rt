@@ -1,5 +1,5 @@
 // The reasons why a sheet has no rows or no text, and why a disc has no plan.
-use crate::told::ToldSheet;
+use crate::reports::SheetReport;
 use cue_sheet::CueWhy;
 use picture_script::ScriptWhy;
 use subcode_author::AuthorStop;
@@ -12,7 +12,7 @@ pub enum SheetStop {
     /// The number of its first refused line, from 1, and the first reason to refuse it.
     Fault { line: u32, why: CueWhy },
     /// The sheet has more index lines than `rows` has room for.
-    NoRoom { told: ToldSheet },
+    NoRoom { report: SheetReport },
     NoMemory,
 }
 

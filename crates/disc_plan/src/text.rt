@@ -1,6 +1,6 @@
 // A text of a sheet.
 ghost use Rattle.std.specs.Prelude.{◌≡◌, ◌≤◌, ◌++◌, IfErr, IfOk, OnErr, drop, length};
-ghost use Rattle.cdg_io.specs.Causes.{TellsFault};
+ghost use Rattle.cdg_io.specs.Causes.{ReportsFault};
 ghost use Rattle.cue_sheet.specs.CueSheet.{text_at};
 ghost use Rattle.disc_plan.specs.SheetRows.{IsTextOf, IsTextStop};
 
@@ -22,7 +22,7 @@ pub fn sheet_text(
     ensures stop { IfErr result (IsTextStop kind place text.now (length out.old)) }
     ensures untouched { OnErr result (out.new ≡ out.old) }
     // The error is `NoMemory` exactly if a request for memory failed.
-    ensures wants { TellsFault TextStop.NoMemory heap.old heap.new result }
+    ensures allocations { ReportsFault TextStop.NoMemory heap.old heap.new result }
 {
     if text.len() > MOST_TEXT_BYTES {
         return Err(TextStop::TooLong);

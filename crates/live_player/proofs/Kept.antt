@@ -14,7 +14,7 @@ use Rattle.cdg_screen.specs.declared.touching.Touched.{Touched}
 use Rattle.cdg_screen.specs.declared.touching.Touched.TheVariants.{Nothing, Tile, All, Border, Colours, Levels}
 use Rattle.cdg_screen.proofs.Lists.{length-row, length-rows_of}
 use Rattle.cdg_screen.proofs.Turns.{in_turn, whole_after}
-use Rattle.live_player.specs.Changes.{touched_change, join, offsets_by, rectangle, sees, tile_change, IsInChange, KeepsUntold}
+use Rattle.live_player.specs.Changes.{touched_change, join, offsets_by, rectangle, sees, tile_change, IsInChange, KeepsUnchanged}
 use Rattle.live_player.specs.declared.change.ScreenChange.{ScreenChange}
 use Rattle.live_player.specs.declared.watch.Watch.{Watch}
 
@@ -152,7 +152,7 @@ join_right one other x y is = record {
 
 beside_same : (change : ScreenChange) (old new : Standing) → IsSameBeside old new
     → ((x y : ℕ) → ¬ IsInChange change x y → x < 300 → y < 216 → screen_pixel new x y ≡ screen_pixel old x y)
-    → KeepsUntold change old new
+    → KeepsUnchanged change old new
 beside_same change old new same pixels = record {
   pixels = pixels;
   colours = λ _. same.colours;
@@ -167,7 +167,7 @@ moved_same old new x y memory place =
     ∙ ap₂ (λ h v. pixel_at old.memory (x + h) (y + v)) place.0 place.1
 
 pub step_keeps : (touched : Touched) (old new : Standing) → IsWholeStanding old → IsWholeStanding new
-    → KeepsTheRest touched old new → KeepsUntold (touched_change touched old.h old.v) old new
+    → KeepsTheRest touched old new → KeepsUnchanged (touched_change touched old.h old.v) old new
 step_keeps Nothing old new whole whole_new same = record {
   pixels = λ x y out x_lt y_lt. ap (λ (s : Standing). screen_pixel s x y) same;
   colours = λ _. ap (λ (s : Standing). s.colours) same;
@@ -207,18 +207,18 @@ step_keeps Levels old new whole whole_new same = record {
 -- ---- all instructions
 
 -- earlier changes are still reported, and all other pixels are unchanged
-pub record Tells (told : ScreenChange) (before : ScreenChange) (old new : Standing) : Type 0 where
-  pub keeps : KeepsUntold told old new
-  pub within : (x y : ℕ) → IsInChange before x y → IsInChange told x y
-  pub colours : told.colours ≡ 0 → before.colours ≡ 0
-  pub levels : told.levels ≡ 0 → before.levels ≡ 0
+pub record CoversChange (reported : ScreenChange) (before : ScreenChange) (old new : Standing) : Type 0 where
+  pub keeps : KeepsUnchanged reported old new
+  pub within : (x y : ℕ) → IsInChange before x y → IsInChange reported x y
+  pub colours : reported.colours ≡ 0 → before.colours ≡ 0
+  pub levels : reported.levels ≡ 0 → before.levels ≡ 0
 
-pub tells : ((instr : Instr) (now : Standing) → IsWholeStanding now
+pub decides : ((instr : Instr) (now : Standing) → IsWholeStanding now
     → KeepsTheRest (touched_by instr) now (standing_after now (instr ∷ [])))
     → (instrs : List Instr) (watch : Watch) (now : Standing) → IsWholeStanding now
     → watch.across ≡ now.h → watch.down ≡ now.v
-    → Tells (run_state sees watch instrs).change watch.change now (standing_after now instrs)
-tells untouched [] watch now whole across down = record {
+    → CoversChange (run_state sees watch instrs).change watch.change now (standing_after now instrs)
+decides untouched [] watch now whole across down = record {
   keeps = record {
     pixels = λ x y out x_lt y_lt. ap (λ (s : Standing). screen_pixel s x y) whole;
     colours = λ _. ap (λ (s : Standing). s.colours) whole;
@@ -228,21 +228,21 @@ tells untouched [] watch now whole across down = record {
   colours = λ none. none;
   levels = λ none. none;
 }
-tells untouched (instr ∷ rest) watch now whole across down =
+decides untouched (instr ∷ rest) watch now whole across down =
     let next : Standing = standing_after now (instr ∷ []) in
     let whole_next : IsWholeStanding next = whole_after now (instr ∷ []) in
     let change : ScreenChange = touched_change (touched_by instr) watch.across watch.down in
     let there : touched_change (touched_by instr) now.h now.v ≡ change =
     ap₂ (touched_change (touched_by instr)) (sym across) (sym down) in
-    let step : KeepsUntold change now next =
-    subst (λ (it : ScreenChange). KeepsUntold it now next) there
+    let step : KeepsUnchanged change now next =
+    subst (λ (it : ScreenChange). KeepsUnchanged it now next) there
     (step_keeps (touched_by instr) now next whole whole_next (untouched instr now whole)) in
     let offsets : offsets_from (watch.across, watch.down) (instr ∷ [])
     ≡ offsets_from (now.h, now.v) (instr ∷ []) =
     ap₂ (λ h v. offsets_from (h, v) (instr ∷ [])) across down in
-    let further : Tells (run_state sees (sees watch instr) rest).change (join watch.change change) next
+    let further : CoversChange (run_state sees (sees watch instr) rest).change (join watch.change change) next
     (standing_after next rest) =
-    tells untouched rest (sees watch instr) next whole_next (ap (λ (o : ℕ × ℕ). o.0) offsets)
+    decides untouched rest (sees watch instr) next whole_next (ap (λ (o : ℕ × ℕ). o.0) offsets)
     (ap (λ (o : ℕ × ℕ). o.1) offsets) in
     let turn : standing_after now (instr ∷ rest) ≡ standing_after next rest = in_turn now (instr ∷ []) rest in
     record {

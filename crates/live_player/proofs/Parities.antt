@@ -35,10 +35,12 @@ not_none : (n : ℕ) (b : Bool) → n ≢ 0 → b ≡ (if n == 0 then false else
 not_none n b other = grind (arith, nat_tests)
 
 -- if a word differs from another one, its sums agree with each test that decides whether it is a codeword
-pub told_by_sums : (word symbols : List ℕ) (told : Bool) (different : ℕ) → word ≡ symbols → IsWord word
-    → Decides told (IsCodeword word) → different ≢ 0
-    → told ≡ (if different == 0 then false else are_zero_sums symbols 4 && are_zero_sums (take 4 symbols) 2)
-told_by_sums word symbols told different same is decides other =
+pub reported_by_sums : (word symbols : List ℕ) (reported : Bool) (different : ℕ) → word ≡ symbols
+    → IsWord word
+    → Decides reported (IsCodeword word) → different ≢ 0
+    → reported
+    ≡ (if different == 0 then false else are_zero_sums symbols 4 && are_zero_sums (take 4 symbols) 2)
+reported_by_sums word symbols reported different same is decides other =
     same_from_decides _ _ decides (parity_decided word is)
     ∙ ap (λ (w : List ℕ). are_zero_sums w 4 && are_zero_sums (take 4 w) 2) same
     ∙ not_none different _ other

@@ -102,9 +102,9 @@ refuses player file cannot = record {
 }
 
 -- the facts of a call that is out of memory
-pub lacks_memory : (player : LivePlayer) (file : List ℕ) → player.words.form ≡ Raw → ¬ IsTooLong player
+pub out_of_memory_is : (player : LivePlayer) (file : List ℕ) → player.words.form ≡ Raw → ¬ IsTooLong player
     → SavesLive player file file (pos 7)
-lacks_memory player file raw short = record {
+out_of_memory_is player file raw short = record {
   saved = search rules;
   refused = search rules;
   can = λ lead_in given played lead_in_most few. search rules;

@@ -96,7 +96,7 @@ pub record IsInChange (change : ScreenChange) (x y : ℕ) : Type 0 where
 
 -- Only the reported part differs between two states of the screen: the pixels outside the rectangle are equal, and the
 -- colours and levels are equal unless they are reported.
-pub record KeepsUntold (change : ScreenChange) (old new : Standing) : Type 0 where
+pub record KeepsUnchanged (change : ScreenChange) (old new : Standing) : Type 0 where
   pub pixels : (x y : ℕ) → ¬ IsInChange change x y → x < 300 → y < 216
       → screen_pixel new x y ≡ screen_pixel old x y
   pub colours : change.colours ≡ 0 → new.colours ≡ old.colours
@@ -113,6 +113,6 @@ AreDrawnFor blocks player instrs = (form : Form) (lead_in : ℕ) (given : List G
 -- These instructions are drawn on a player's picture, and what may have changed on the screen is reported.
 pub record ReportsChange (change : ScreenChange) (instrs : List Instr) (before after : LivePlayer)
     : Type 0 where
-  pub told : change ≡ changes_on (standing_on before) instrs
+  pub reported : change ≡ changes_on (standing_on before) instrs
   pub stands : standing_on after ≡ standing_after (standing_on before) instrs
-  pub keeps : KeepsUntold change (standing_on before) (standing_on after)
+  pub keeps : KeepsUnchanged change (standing_on before) (standing_on after)

@@ -1,6 +1,6 @@
 // The part of the screen that may change.
 ghost use Rattle.std.specs.Prelude.{◌≡◌, List};
-ghost use Rattle.live_player.specs.Changes.{touched_change, join, no_change, rectangle, tile_change, changes_on, KeepsUntold};
+ghost use Rattle.live_player.specs.Changes.{touched_change, join, no_change, rectangle, tile_change, changes_on, KeepsUnchanged};
 ghost use Rattle.cdg_instructions.specs.declared.instr.Instr.{Instr};
 ghost use Rattle.cdg_screen.specs.Standing.{IsWholeStanding, Standing, standing_after};
 
@@ -111,9 +111,9 @@ fn rectangle(left: u32, top: u32, right: u32, bottom: u32) -> ScreenChange
 }
 
 /// A law: instructions change only the part of the screen that is reported for them.
-pub fn untold_stays()
+pub fn unchanged_stays()
     ensures { (now : Standing) (instrs : List Instr) → IsWholeStanding now
-        → KeepsUntold (changes_on now instrs) now (standing_after now instrs) }
+        → KeepsUnchanged (changes_on now instrs) now (standing_after now instrs) }
 {
     untouched_stays();
 }

@@ -2,12 +2,12 @@
 ghost use Rattle.std.specs.Prelude.{◌≡◌, ◌↔◌, ◌%◌, ◌∷◌, [], IsTrue, slice_index};
 ghost use Rattle.cdg_io.specs.Run.{run_state};
 ghost use Rattle.cdg_screen.specs.Standing.{IsWholeStanding, Standing, standing_after};
-ghost use Rattle.live_player.specs.Changes.{sees, watch_from, IsWithinScreen, KeepsUntold};
+ghost use Rattle.live_player.specs.Changes.{sees, watch_from, IsWithinScreen, KeepsUnchanged};
 ghost use Rattle.live_player.specs.Lives.{instruction_of, standing_on};
 ghost use Rattle.live_player.specs.Steps.{DrawsPack};
 ghost use Rattle.live_player.specs.Taken.{DrawsPacksReported, FeedsBlocks};
 
-use crate::change::{ScreenChange, untold_stays};
+use crate::change::{ScreenChange, unchanged_stays};
 use crate::plays::AnyPlayer;
 use crate::seeing::{GRAPHICS, read_pack};
 use crate::watch::Watch;
@@ -17,12 +17,12 @@ use rw_code::SYMBOLS;
 /// What may change if a pack is drawn on a screen that begins `across` pixels further right and `down` pixels further
 /// down in the memory.
 pub fn pack_change(pack: &[u8; SYMBOLS], across: u8, down: u8) -> ScreenChange
-    ensures told { result
+    ensures reported { result
         ≡ (run_state sees (watch_from across down) (instruction_of pack.now ∷ [])).change }
     ensures keeps { (now : Standing) → IsWholeStanding now → now.h ≡ across → now.v ≡ down
-        → KeepsUntold result now (standing_after now (instruction_of pack.now ∷ [])) }
+        → KeepsUnchanged result now (standing_after now (instruction_of pack.now ∷ [])) }
 {
-    untold_stays();
+    unchanged_stays();
     let mut watch = Watch::from((across, down));
     watch.see(&read_pack(pack));
     watch.change
@@ -45,7 +45,7 @@ fn watch_of<P: AnyPlayer>(player: &P) -> Watch
 pub fn draw_all<P: AnyPlayer>(player: &mut P, packs: &[[u8; SYMBOLS]]) -> ScreenChange
     ensures { DrawsPacksReported packs.now result (P.played player.old) (P.played player.new) }
 {
-    untold_stays();
+    unchanged_stays();
     let mut watch = watch_of(player);
     for pack in packs {
         draw_next(player, &mut watch, pack);
@@ -82,7 +82,7 @@ fn has_graphics(pack: &[u8; SYMBOLS]) -> bool
 pub fn feed_all<P: AnyPlayer>(player: &mut P, blocks: &[[u8; BLOCK_BYTES]]) -> ScreenChange
     ensures { FeedsBlocks blocks.now result (P.played player.old) (P.played player.new) }
 {
-    untold_stays();
+    unchanged_stays();
     let mut watch = watch_of(player);
     for block in blocks {
         player.play_block(&mut watch, block);

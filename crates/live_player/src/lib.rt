@@ -21,7 +21,7 @@ mod table;
 mod watch;
 mod writing;
 
-pub use change::{ScreenChange, touched_change, untold_stays};
+pub use change::{ScreenChange, touched_change, unchanged_stays};
 pub use drawing::play;
 pub use feeding::{draw_all, feed_all, pack_change};
 pub use format::PixelFormat;

@@ -16,10 +16,10 @@ use Rattle.rw_mend.proofs.Givens.{given_codeword}
 
 -- a candidate that is a codeword is a `Near`
 near_of : (candidate : Candidate) (codeword : List ℕ) → IsOf codeword candidate
-    → (doubts : ℕ) × (candidate ≡ Near codeword doubts)
+    → (distance : ℕ) × (candidate ≡ Near codeword distance)
 near_of Silent codeword is = absurd is
 near_of (Lost word) codeword is = absurd is
-near_of (Near pack doubts) codeword is = (doubts, ap (λ p. Near p doubts) is)
+near_of (Near pack distance) codeword is = (distance, ap (λ p. Near p distance) is)
 
 said_codeword : (words : ℕ) (programs : List (List ℕ)) (n r : ℕ) (candidate : Candidate) (codeword : List ℕ)
     → IsSaid words programs n r candidate → IsOf codeword candidate → IsCodeword codeword
@@ -33,9 +33,9 @@ said_codeword words programs n r candidate codeword (inr (kept, given)) is =
 agreed_codeword : (one other : Candidate) (codeword : List ℕ) → AreAgreed one other codeword
     → IsCodeword codeword
 agreed_codeword Silent other codeword is = absurd is
-agreed_codeword (Near pack doubts) other codeword is = absurd is
+agreed_codeword (Near pack distance) other codeword is = absurd is
 agreed_codeword (Lost first) Silent codeword is = absurd is
-agreed_codeword (Lost first) (Near pack doubts) codeword is = absurd is
+agreed_codeword (Lost first) (Near pack distance) codeword is = absurd is
 agreed_codeword (Lost first) (Lost second) codeword is = is.is_codeword
 
 by_codeword : (words : ℕ) (programs : List (List ℕ)) (n : ℕ) (candidates : List Candidate)

@@ -236,13 +236,14 @@ same_stream words lead_in readings others said saying found other stream turned 
     ∙ sym (own_byte stream p))
 
 pub same_calls : (count lead_in : ℕ) (readings others old new turned old_sources sources named : List ℕ)
-    (told retold : Tallies) → 0 < count → length others ≡ length readings
+    (reported reported_too : Tallies) → 0 < count → length others ≡ length readings
     → length readings ≡ count * (length readings / count)
     → IsPermutation (parts count (length readings / count) readings)
     (parts count (length others / count) others)
-    → AreMendedIntoStream count lead_in readings old new old_sources sources told
-    → AreMendedIntoStream count lead_in others old turned old_sources named retold → turned ≡ new
-same_calls count lead_in readings others old new turned old_sources sources named told retold some same equal
+    → AreMendedIntoStream count lead_in readings old new old_sources sources reported
+    → AreMendedIntoStream count lead_in others old turned old_sources named reported_too → turned ≡ new
+same_calls count lead_in readings others old new turned old_sources sources named reported reported_too some
+    same equal
     moved done done' =
     let words : ℕ = words_in_each count lead_in readings in
     let its_words : words_in_each count lead_in others ≡ words =

@@ -26,12 +26,12 @@ pub fn the_order_of_readings_changes_no_byte()
         → IsMendedStream lead_in readings found stream → IsMendedStream lead_in others other turned
         → length turned ≡ length stream → turned ≡ stream }
     ensures calls { (count lead_in : ℕ) (readings others old new turned old_sources sources named : List ℕ)
-        (told retold : Tallies) → 0 < count → length others ≡ length readings
+        (tallies other_tallies : Tallies) → 0 < count → length others ≡ length readings
         → length readings ≡ count * (length readings / count)
         → IsPermutation (parts count (length readings / count) readings)
         (parts count (length others / count) others)
-        → AreMendedIntoStream count lead_in readings old new old_sources sources told
-        → AreMendedIntoStream count lead_in others old turned old_sources named retold → turned ≡ new }
+        → AreMendedIntoStream count lead_in readings old new old_sources sources tallies
+        → AreMendedIntoStream count lead_in others old turned old_sources named other_tallies → turned ≡ new }
 {}
 
 /// A law: a mended word is its codeword in the stream, without a wrong symbol. Any other word has the symbols that are

@@ -88,17 +88,17 @@ as_before pixels r size e holds (suc q) q_lt =
     ∙ as_before pixels r size e holds q (omega arith)
 
 -- the comparison shows whether a tile has a single colour
-pub single_told : (tile pixels : List ℕ) (told : Bool) → IsTilePixels pixels → pixels ≡ tile
-    → told ≡ bytes_eq (take (72 - 1) (drop 1 pixels)) (take (71 - 0) (drop 0 pixels))
-    → MatchOption (then_some told (get_or pixels 0 0)) ((c : ℕ) → tile ≢ replicate 72 c)
+pub single_reported : (tile pixels : List ℕ) (reported : Bool) → IsTilePixels pixels → pixels ≡ tile
+    → reported ≡ bytes_eq (take (72 - 1) (drop 1 pixels)) (take (71 - 0) (drop 0 pixels))
+    → MatchOption (then_some reported (get_or pixels 0 0)) ((c : ℕ) → tile ≢ replicate 72 c)
     (λ c. (c < 16) × (tile ≡ replicate 72 c))
-single_told tile pixels true is same tells = (
+single_reported tile pixels true is same decides = (
   All-get_or (λ p. p < 16) pixels 0 0 (omega (arith, is.count)) is.below,
-  sym same ∙ all_same pixels (get_or pixels 0 0) is.count (as_before pixels true is.count tells refl),
+  sym same ∙ all_same pixels (get_or pixels 0 0) is.count (as_before pixels true is.count decides refl),
 )
-single_told tile pixels false is same tells = λ c at.
+single_reported tile pixels false is same decides = λ c at.
     let both : pixels ≡ replicate 72 c = same ∙ at in
-    false≢true (tells ∙ (bytes_eq-Decides (take (72 - 1) (drop 1 pixels)) (take (71 - 0) (drop 0 pixels))).1
+    false≢true (decides ∙ (bytes_eq-Decides (take (72 - 1) (drop 1 pixels)) (take (71 - 0) (drop 0 pixels))).1
     (ap (λ (xs : List ℕ). take (72 - 1) (drop 1 xs)) both
     ∙ sym (ap (λ (xs : List ℕ). take (71 - 0) (drop 0 xs)) both)))
 

@@ -139,29 +139,31 @@ IsAppended k Same instr old new =
 
 first_appended : {Same : Type 0} (instr : Instr) (old new : List Instr) → IsAppended 0 Same instr old new
     → new ≡ old ++ instr ∷ []
-first_appended instr old new (inl told) = told.0
-first_appended instr old new (inr told) = absurd (omega (arith, told.1))
+first_appended instr old new (inl reported) = reported.0
+first_appended instr old new (inr reported) = absurd (omega (arith, reported.1))
 
 later_appended : {Same : Type 0} (k : ℕ) (b : Bool) (instr : Instr) (old new : List Instr) → 0 < k
     → Decides b Same → IsAppended k Same instr old new → new ≡ old ++ (if b then [] else instr ∷ [])
-later_appended k true instr old new pos tests (inl told) = absurd (told.1 pos (tests.0 refl))
-later_appended k false instr old new pos tests (inl told) = told.0
-later_appended k true instr old new pos tests (inr told) = told.0 ∙ sym (append-nil old)
-later_appended k false instr old new pos tests (inr told) = absurd (false≢true (tests.1 told.2))
+later_appended k true instr old new pos tests (inl reported) = absurd (reported.1 pos (tests.0 refl))
+later_appended k false instr old new pos tests (inl reported) = reported.0
+later_appended k true instr old new pos tests (inr reported) = reported.0 ∙ sym (append-nil old)
+later_appended k false instr old new pos tests (inr reported) = absurd (false≢true (tests.1 reported.2))
 
 -- the result of a comparison of colours
-pub told_other : (told : Bool) (xs ys zs : List ℕ) → told ≡ not (bytes_eq xs ys) → xs ≡ zs → told ≡ true
+pub reported_other : (reported : Bool) (xs ys zs : List ℕ) → reported ≡ not (bytes_eq xs ys) → xs ≡ zs
+    → reported ≡ true
     → ¬ (zs ≡ ys)
-told_other told xs ys zs is at is_true same =
+reported_other reported xs ys zs is at is_true same =
     false≢true (sym (is ∙ ap not ((bytes_eq-Decides xs ys).1 (at ∙ same))) ∙ is_true)
 
 not_false : (b : Bool) → not b ≡ false → b ≡ true
 not_false true h = refl
 not_false false h = sym h
 
-pub told_same : (told : Bool) (xs ys zs : List ℕ) → told ≡ not (bytes_eq xs ys) → xs ≡ zs → told ≡ false
+pub reported_same : (reported : Bool) (xs ys zs : List ℕ) → reported ≡ not (bytes_eq xs ys) → xs ≡ zs
+    → reported ≡ false
     → zs ≡ ys
-told_same told xs ys zs is at is_false =
+reported_same reported xs ys zs is at is_false =
     sym at ∙ (bytes_eq-Decides xs ys).0 (not_false (bytes_eq xs ys) (sym is ∙ is_false))
 
 -- the settings one after another
@@ -221,11 +223,11 @@ all_colour k colour start is h = (colour_is_tile colour (start_small k colour (s
 pub is_made : (pixels : List ℕ) (made : Option (List ℕ))
     → MatchOption made (¬ All (λ p. p < 16) pixels) (λ t. All (λ p. p < 16) pixels × (t ≡ pixels))
     → All (λ p. p < 16) pixels → IsSome made
-is_made pixels None told all = absurd (told all)
-is_made pixels (Some tile) told all = refl
+is_made pixels None reported all = absurd (reported all)
+is_made pixels (Some tile) reported all = refl
 
 pub made_is : (pixels : List ℕ) (made : Option (List ℕ)) (tile : List ℕ)
     → MatchOption made (¬ All (λ p. p < 16) pixels) (λ t. All (λ p. p < 16) pixels × (t ≡ pixels))
     → made ≡ Some tile → tile ≡ pixels
-made_is pixels None tile told is = absurd (cc)
-made_is pixels (Some other) tile told is = let same : other ≡ tile = cc in sym same ∙ told.1
+made_is pixels None tile reported is = absurd (cc)
+made_is pixels (Some other) tile reported is = let same : other ≡ tile = cc in sym same ∙ reported.1

@@ -22,9 +22,9 @@ use Rattle.picture_script.proofs.Drawn.{picture_tile_is}
 use Rattle.picture_script.proofs.Parts.{tile_pixel, tile_size}
 use Rattle.pack_schedule.specs.Change.{settings, IsStart, tiles_before}
 use Rattle.pack_schedule.specs.PlannedChange.{planned_length, tile_steps, first_least, chosen_start}
-use Rattle.pack_schedule.specs.SameTiles.{AreToldTiles, IsRowTold, SameRow, SameTiles}
+use Rattle.pack_schedule.specs.SameTiles.{MarksTiles, MarksRow, SameRow, SameTiles}
 use Rattle.pack_schedule.specs.Weights.{IsWeighed, AreWeights, not_weighed}
-use Rattle.pack_schedule.specs.declared.change.tiles.ToldTiles.{ToldTiles}
+use Rattle.pack_schedule.specs.declared.change.tiles.TileMarks.{TileMarks}
 use Rattle.pack_schedule.specs.declared.change.tiles.Weighed.{Weighed}
 use Rattle.pack_schedule.proofs.Counting.{steps_so_far, none_so_far, one_more_tile, all_tiles}
 use Rattle.pack_schedule.proofs.SettingLaws.{zero_all}
@@ -113,60 +113,65 @@ undrawn_same script k before now drawn size was is keeps undrawn =
     (keeps m (get_or_default drawn m true false (omega (arith, lt, size)) ∙ undrawn m lt)).1)
 
 -- the comparison of one more row
-pub row_told : (old new : List ℕ) (rows : List Bool) (columns : List (List Bool)) (r : ℕ) (whole : Bool)
+pub row_reported : (old new : List ℕ) (rows : List Bool) (columns : List (List Bool)) (r : ℕ) (whole : Bool)
     (marks : List Bool) → r < length rows → r < length columns
-    → ((m : ℕ) → m < r → IsRowTold old new (m + 1) (get_or rows m false) (get_or columns m []))
-    → IsRowTold old new (r + 1) whole marks
-    → (m : ℕ) → m < r + 1 → IsRowTold old new (m + 1) (get_or (slice_set rows r whole) m false)
+    → ((m : ℕ) → m < r → MarksRow old new (m + 1) (get_or rows m false) (get_or columns m []))
+    → MarksRow old new (r + 1) whole marks
+    → (m : ℕ) → m < r + 1 → MarksRow old new (m + 1) (get_or (slice_set rows r whole) m false)
     (get_or (slice_set columns r marks) m [])
-row_told old new rows columns r whole marks in_rows in_columns before here =
-    below_more (λ m. IsRowTold old new (m + 1) (get_or (slice_set rows r whole) m false)
+row_reported old new rows columns r whole marks in_rows in_columns before here =
+    below_more (λ m. MarksRow old new (m + 1) (get_or (slice_set rows r whole) m false)
     (get_or (slice_set columns r marks) m [])) r
     (λ m lt.
     let row = get_or-set_other rows r m whole false (λ e. omega (arith, e, lt)) in
     let mark = get_or-set_other columns r m marks [] (λ e. omega (arith, e, lt)) in
-    subst (λ w. IsRowTold old new (m + 1) w (get_or (slice_set columns r marks) m [])) (sym row)
-    (subst (IsRowTold old new (m + 1) (get_or rows m false)) (sym mark) (before m lt)))
+    subst (λ w. MarksRow old new (m + 1) w (get_or (slice_set columns r marks) m [])) (sym row)
+    (subst (MarksRow old new (m + 1) (get_or rows m false)) (sym mark) (before m lt)))
     (let row = get_or-set_same rows r whole false in_rows in
     let mark = get_or-set_same columns r marks [] in_columns in
-    subst (λ w. IsRowTold old new (r + 1) w (get_or (slice_set columns r marks) r [])) (sym row)
-    (subst (IsRowTold old new (r + 1) whole) (sym mark) here))
+    subst (λ w. MarksRow old new (r + 1) w (get_or (slice_set columns r marks) r [])) (sym row)
+    (subst (MarksRow old new (r + 1) whole) (sym mark) here))
 
 -- the marks of the first r rows are right; the later rows are not compared yet
-abbrev pub AreToldSoFar : List ℕ → List ℕ → ℕ → ToldTiles → Type 0
-AreToldSoFar old new r told = (length told.rows ≡ 16) × (length told.columns ≡ 16)
-    × ((m : ℕ) → r ≤ m → m < 16 → get_or told.rows m false ≡ true)
-    × ((m : ℕ) → m < r → IsRowTold old new (m + 1) (get_or told.rows m false) (get_or told.columns m []))
+abbrev pub MarksSoFar : List ℕ → List ℕ → ℕ → TileMarks → Type 0
+MarksSoFar old new r reported = (length reported.rows ≡ 16) × (length reported.columns ≡ 16)
+    × ((m : ℕ) → r ≤ m → m < 16 → get_or reported.rows m false ≡ true)
+    × ((m : ℕ) → m < r
+    → MarksRow old new (m + 1) (get_or reported.rows m false) (get_or reported.columns m []))
 
-pub drawn_told : (old new : List ℕ) (r : ℕ) (told : ToldTiles) (whole : Bool) (marks : List Bool) → r < 16
-    → AreToldSoFar old new r told → IsRowTold old new (r + 1) whole marks
-    → AreToldSoFar old new (r + 1)
-    (record { rows = slice_set told.rows r whole; columns = slice_set told.columns r marks })
-drawn_told old new r told whole marks lt h here = (
+pub drawn_reported : (old new : List ℕ) (r : ℕ) (reported : TileMarks) (whole : Bool) (marks : List Bool)
+    → r < 16
+    → MarksSoFar old new r reported → MarksRow old new (r + 1) whole marks
+    → MarksSoFar old new (r + 1)
+    (record { rows = slice_set reported.rows r whole; columns = slice_set reported.columns r marks })
+drawn_reported old new r reported whole marks lt h here = (
   simp length-set h.0,
   simp length-set h.1,
   λ m le m_lt.
-      get_or-set_other told.rows r m whole false (λ e. omega (arith, e, le)) ∙ h.2 m (omega arith) m_lt,
-  row_told old new told.rows told.columns r whole marks (omega (arith, h.0, lt)) (omega (arith, h.1, lt)) h.3
+      get_or-set_other reported.rows r m whole false (λ e. omega (arith, e, le)) ∙ h.2 m (omega arith) m_lt,
+  row_reported old new reported.rows reported.columns r whole marks (omega (arith, h.0, lt))
+      (omega (arith, h.1, lt)) h.3
       here,
 )
 
-pub undrawn_told : (old new : List ℕ) (r : ℕ) (told : ToldTiles) → r < 16 → AreToldSoFar old new r told
-    → SameRow old new (r + 1) → AreToldSoFar old new (r + 1) told
-undrawn_told old new r told lt h same = (
+pub undrawn_reported : (old new : List ℕ) (r : ℕ) (reported : TileMarks) → r < 16
+    → MarksSoFar old new r reported
+    → SameRow old new (r + 1) → MarksSoFar old new (r + 1) reported
+undrawn_reported old new r reported lt h same = (
   h.0,
   h.1,
   λ m le m_lt. h.2 m (omega arith) m_lt,
-  below_more (λ m. IsRowTold old new (m + 1) (get_or told.rows m false) (get_or told.columns m [])) r h.3
+  below_more (λ m. MarksRow old new (m + 1) (get_or reported.rows m false) (get_or reported.columns m [])) r
+      h.3
       (λ _. same, λ is. absurd (false≢true (sym is ∙ h.2 r (omega arith) lt))),
 )
 
-pub all_told : (old new : List ℕ) (told : ToldTiles) (all : Bool) → AreToldTiles old new told
-    → all ≡ pointwise beq told.rows (replicate 16 true) → all ≡ true → SameTiles old new
-all_told old new told all h tests holds =
-    let rows : told.rows ≡ replicate 16 true =
-    (slice_eq-Decides booleans_Decides told.rows (replicate 16 true) all tests).0 holds in
-    let row : (m : ℕ) → m < 16 → get_or told.rows m false ≡ true =
+pub all_reported : (old new : List ℕ) (reported : TileMarks) (all : Bool) → MarksTiles old new reported
+    → all ≡ pointwise beq reported.rows (replicate 16 true) → all ≡ true → SameTiles old new
+all_reported old new reported all h tests holds =
+    let rows : reported.rows ≡ replicate 16 true =
+    (slice_eq-Decides booleans_Decides reported.rows (replicate 16 true) all tests).0 holds in
+    let row : (m : ℕ) → m < 16 → get_or reported.rows m false ≡ true =
     λ m lt. ap (λ marks. get_or marks m false) rows ∙ get_or-replicate {A = Bool} 16 m true false lt in
     all_rows old new 16 (omega arith) (λ m lt. (h m lt).0 (row m lt))
 
@@ -248,9 +253,9 @@ drawn_alone script k row column start before new instr row_ge row_le column_ge c
     ∙ sym (before_none script k row column start none)) new_is
 
 pub start_none : (start : Option ℕ) (none : Bool) → is_some start ≡ not none → none ≡ true → start ≡ None
-start_none None none told h = refl
-start_none (Some colour) true told h = absurd (cc)
-start_none (Some colour) false told h = absurd (cc)
+start_none None none reported h = refl
+start_none (Some colour) true reported h = absurd (cc)
+start_none (Some colour) false reported h = absurd (cc)
 
 -- if the tiles of two pictures are equal, so are their weights
 pub same_weights : (script : List Drawing) (k : ℕ) (before now : Board) (weights : List Weighed)

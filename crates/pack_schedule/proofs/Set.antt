@@ -87,11 +87,13 @@ record StepsColours (s s' : Standing) (low : Bool) (colours : List ℕ) : Type 0
 
 is_low : (n : ℕ) → n < 8 → nat_lt n 8 ≡ true
 is_low n lt =
-    elim (leb_tells (suc n) 8) [ inl tells ↦ tells.0 | inr tells ↦ absurd (omega (arith, lt, tells.1)) ]
+    elim (leb_tells (suc n) 8)
+    [ inl decides ↦ decides.0 | inr decides ↦ absurd (omega (arith, lt, decides.1)) ]
 
 is_high : (n : ℕ) → nat_lt (8 + n) 8 ≡ false
 is_high n =
-    elim (leb_tells (suc (8 + n)) 8) [ inl tells ↦ absurd (omega (arith, tells.1)) | inr tells ↦ tells.0 ]
+    elim (leb_tells (suc (8 + n)) 8)
+    [ inl decides ↦ absurd (omega (arith, decides.1)) | inr decides ↦ decides.0 ]
 
 low_step : (s : Standing) (skips : Bool) (colours : List ℕ)
     → (skips ≡ true → (n : ℕ) → n < 8 → slice_index s.colours n ≡ get_or colours n 0)

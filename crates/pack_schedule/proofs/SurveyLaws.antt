@@ -152,10 +152,10 @@ all_fewest : NeedsAreFewest → (script : List Drawing) (planned : List PlannedC
 all_fewest needs script planned ranges small surveyed k lt =
     (planned_change script k, needs.change script k ranges small, sym (surveyed.each k lt).need_is)
 
-late_told : NeedsAreFewest → (script : List Drawing) (blocks : ℕ) (stop : Stop) → AreTimesInOrder script
+late_reported : NeedsAreFewest → (script : List Drawing) (blocks : ℕ) (stop : Stop) → AreTimesInOrder script
     → AreColoursInRange script → ((k x y : ℕ) → picture_pixel script k x y < 16) → IsStop script blocks stop
     → (picture need free : ℕ) → stop ≡ Late picture need free → CannotBeReady script picture need free
-late_told needs script blocks stop order ranges small is picture need free late =
+late_reported needs script blocks stop order ranges small is picture need free late =
     needs.late script picture need free order ranges small (subst (IsStop script blocks) late is).1
 
 -- ---- about the answer
@@ -176,7 +176,7 @@ pub late_of : NeedsAreFewest → (script : List Drawing) (blocks : ℕ) → AreT
 late_of needs script blocks order ranges small (Ok planned) is picture need free late = absurd (cc)
 late_of needs script blocks order ranges small (Err stop) is picture need free late =
     let same : stop ≡ Late picture need free = cc in
-    late_told needs script blocks stop order ranges small is picture need free same
+    late_reported needs script blocks stop order ranges small is picture need free same
 
 -- if the last picture is not held beyond the end, no picture is
 pub is_within : (script : List Drawing) (blocks : ℕ) → AreTimesInOrder script → ¬ IsPastEnd script blocks

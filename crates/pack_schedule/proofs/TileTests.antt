@@ -24,11 +24,13 @@ are_eq a b c d one two = ap₂ (λ s t. s && t) (is_eq a b one) (is_eq c d two)
 
 pub is_low : (n : ℕ) → n < 8 → nat_lt n 8 ≡ true
 is_low n lt =
-    elim (leb_tells (suc n) 8) [ inl tells ↦ tells.0 | inr tells ↦ absurd (omega (arith, lt, tells.1)) ]
+    elim (leb_tells (suc n) 8)
+    [ inl decides ↦ decides.0 | inr decides ↦ absurd (omega (arith, lt, decides.1)) ]
 
 pub is_high : (n : ℕ) → nat_lt (8 + n) 8 ≡ false
 is_high n =
-    elim (leb_tells (suc (8 + n)) 8) [ inl tells ↦ absurd (omega (arith, tells.1)) | inr tells ↦ tells.0 ]
+    elim (leb_tells (suc (8 + n)) 8)
+    [ inl decides ↦ absurd (omega (arith, decides.1)) | inr decides ↦ decides.0 ]
 
 -- the tile of a place covers its pixels, and no other tile does
 pub covers_here : (row column p : ℕ) → row ≤ 17 → column ≤ 49 → p < 72

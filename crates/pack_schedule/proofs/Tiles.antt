@@ -41,7 +41,8 @@ is_eq : (a b : ℕ) → a ≡ b → (a == b) ≡ true
 is_eq a b e = elim (eqb_tells a b) [ inl same ↦ same.0 | inr other ↦ absurd (other.1 e) ]
 
 pub is_le : (a b : ℕ) → a ≤ b → nat_le a b ≡ true
-is_le a b le = elim (leb_tells a b) [ inl tells ↦ tells.0 | inr tells ↦ absurd (omega (arith, le, tells.1)) ]
+is_le a b le =
+    elim (leb_tells a b) [ inl decides ↦ decides.0 | inr decides ↦ absurd (omega (arith, le, decides.1)) ]
 
 -- ---- each element of a reversed list
 

@@ -41,7 +41,7 @@ pub fn packs_are_a_schedule()
 
 /// A law: the first late row of a plan is the late picture that `survey` reports. If no row is late, every picture is
 /// in time, so there is a schedule.
-pub fn plans_tell_what_a_survey_tells()
+pub fn plans_report_what_a_survey_reports()
     ensures first { (script : List Drawing) (rows : List PlanRow) (k : ℕ) → ArePlanRows script rows
         → k < pictures script → IsFirstLate rows k
         → IsLate script k (slice_index_or rows k no_row).need (slice_index_or rows k no_row).free }

@@ -14,7 +14,7 @@ pub use change_laws::{
     changes_can_be_written, changes_have_planned_lengths, planned_changes_are_changes,
 };
 pub use laws::{
-    packs_are_a_schedule, plans_tell_what_a_survey_tells, scheduled_pictures_are_shown,
+    packs_are_a_schedule, plans_report_what_a_survey_reports, scheduled_pictures_are_shown,
 };
 pub use length_laws::{
     needs_are_fewest, ordered_changes_are_shortest, schedules_of_ordered_changes_are_schedules,

@@ -70,33 +70,33 @@ columns_of_tile a b row column i row_ge column_ge i_lt same j lt =
     (omega arith)
 
 -- the mark of a tile, from the marks of its columns
-pub tile_told : (a b : List ℕ) (row i : ℕ) (equal : List Bool) (all : Bool) → 1 ≤ row → i < 48
+pub tile_reported : (a b : List ℕ) (row i : ℕ) (equal : List Bool) (all : Bool) → 1 ≤ row → i < 48
     → ((x : ℕ) → x < 288 → get_or equal x false ≡ true ↔ IsSameColumn a b (3456 * (row - 1) + x))
     → (all ≡ true ↔ ((n : ℕ) → n < 6 → get_or equal (6 * i + n) false ≡ true))
     → all ≡ true ↔ tile_of a row (i + 1) ≡ tile_of b row (i + 1)
-tile_told a b row i equal all row_ge lt columns six =
+tile_reported a b row i equal all row_ge lt columns six =
     let at : (n : ℕ) → 3456 * (row - 1) + (6 * (i + 1 - 1) + n) ≡ 3456 * (row - 1) + (6 * i + n) = λ n.
     omega arith in (
-      (λ told. tile_of_columns a b row (i + 1) row_ge (omega arith)
+      (λ reported. tile_of_columns a b row (i + 1) row_ge (omega arith)
           (λ n n_lt. subst (IsSameColumn a b) (sym (at n))
-          ((columns (6 * i + n) (omega arith)).0 (six.0 told n n_lt)))),
+          ((columns (6 * i + n) (omega arith)).0 (six.0 reported n n_lt)))),
       (λ same. six.1 (λ n n_lt. (columns (6 * i + n) (omega arith)).1
           (subst (IsSameColumn a b) (at n)
           (columns_of_tile a b row (i + 1) n row_ge (omega arith) n_lt same)))),
     )
 
 -- one more mark
-pub marks_more : (P : ℕ → Type 0) (marks : List Bool) (i : ℕ) (told : Bool) → i < length marks
-    → ((m : ℕ) → m < i → get_or marks m false ≡ true ↔ P m) → (told ≡ true ↔ P i)
-    → (m : ℕ) → m < i + 1 → get_or (slice_set marks i told) m false ≡ true ↔ P m
-marks_more P marks i told inside before here =
-    below_more (λ m. get_or (slice_set marks i told) m false ≡ true ↔ P m) i
+pub marks_more : (P : ℕ → Type 0) (marks : List Bool) (i : ℕ) (reported : Bool) → i < length marks
+    → ((m : ℕ) → m < i → get_or marks m false ≡ true ↔ P m) → (reported ≡ true ↔ P i)
+    → (m : ℕ) → m < i + 1 → get_or (slice_set marks i reported) m false ≡ true ↔ P m
+marks_more P marks i reported inside before here =
+    below_more (λ m. get_or (slice_set marks i reported) m false ≡ true ↔ P m) i
     (λ m lt.
-    let other = get_or-set_other marks i m told false (λ e. omega (arith, e, lt)) in (
+    let other = get_or-set_other marks i m reported false (λ e. omega (arith, e, lt)) in (
       (λ is. (before m lt).0 (sym other ∙ is)),
       (λ p. other ∙ (before m lt).1 p),
     ))
-    (let same = get_or-set_same marks i told false inside in (
+    (let same = get_or-set_same marks i reported false inside in (
       (λ is. here.0 (sym same ∙ is)),
       (λ p. same ∙ here.1 p),
     ))
@@ -122,8 +122,8 @@ column_more a b here there start j old new here_is there_is before more x lt =
     let place : start + 288 * j + x ≡ start + x + 288 * j = omega arith in
     let at_a = line_at here a (start + 288 * j) x here_is lt ∙ ap (λ n. get_or a n 0) place in
     let at_b = line_at there b (start + 288 * j) x there_is lt ∙ ap (λ n. get_or b n 0) place in (
-      (λ told.
-          let both = (more x lt).0 told in
+      (λ reported.
+          let both = (more x lt).0 reported in
           below_more (λ m. get_or a (start + x + 288 * m) 0 ≡ get_or b (start + x + 288 * m) 0) j
           ((before x lt).0 both.0) (sym at_a ∙ both.1 ∙ at_b)),
       (λ all. (more x lt).1 (

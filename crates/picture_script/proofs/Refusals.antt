@@ -263,9 +263,9 @@ pub step_passed : (before : List Drawing) (line : List ℕ) → is_passed_over l
 step_passed before line h =
     ap (λ b. if b then Ok before else grown before (checked_words before (words_in line))) h
 
-pub step_heard : (before : List Drawing) (line : List ℕ) → is_passed_over line ≡ false
+pub step_read : (before : List Drawing) (line : List ℕ) → is_passed_over line ≡ false
     → script_step before line ≡ grown before (checked_words before (words_in line))
-step_heard before line h =
+step_read before line h =
     ap (λ b. if b then Ok before else grown before (checked_words before (words_in line))) h
 
 pub one_refused : (number : ℕ) (before : List Drawing) (line : List ℕ) (rest : List (List ℕ))
@@ -283,9 +283,9 @@ pub line_read : (before : List Drawing) (line : List ℕ) (reader : ScriptReader
     → Takes before (checked_words before (words_in line)) reader result
     → Follows before line reader result
 line_read before line reader (Ok u) heard takes =
-    (before ++ takes.0 ∷ [], step_heard before line heard ∙ ap (grown before) takes.1, takes.2)
+    (before ++ takes.0 ∷ [], step_read before line heard ∙ ap (grown before) takes.1, takes.2)
 line_read before line reader (Err why) heard takes =
-    step_heard before line heard ∙ ap (grown before) takes
+    step_read before line heard ∙ ap (grown before) takes
 
 -- The whole text.
 

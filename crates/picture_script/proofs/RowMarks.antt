@@ -4,7 +4,7 @@ use Rattle.std.specs.Prelude.{replicate, slice_set}
 use Rattle.std.proofs.lemmas.Bool.{cases_lt}
 use Rattle.std.proofs.lemmas.List.{get_or-replicate, length-replicate, get_or-set_other, get_or-set_same, get_or_past}
 use Rattle.picture_script.specs.Script.{Drawing, Border, drawn_by, lines_before, picture_pixel}
-use Rattle.picture_script.specs.DrawnRows.{DrawsOn, KeepsRows, LeavesRows, MarksRows, TellsRows}
+use Rattle.picture_script.specs.DrawnRows.{DrawsOn, KeepsRows, LeavesRows, MarksRows, AreDrawnRows}
 use Rattle.picture_script.proofs.Scripts.{before_prefix}
 
 -- an unmarked row was unmarked before, and is not between `from` and `to`
@@ -19,7 +19,7 @@ Marked old new from to =
 
 pub marked_to : (old new : List Bool) (from i to : ℕ) → (i ≡ from) ⊎ (i ≤ to) → Marked old new from i
     → Marked old new from to
-marked_to old new from i to within marked r told = elim (marked r told) [
+marked_to old new from i to within marked r reported = elim (marked r reported) [
   | inl before ↦ inl before
   | inr between ↦ elim within [
     | inl none ↦ absurd (omega (arith, none, between.0, between.1))
@@ -70,19 +70,19 @@ between_pictures script k from to rows pos from_is to_is leaves r none =
           ∙ ap (λ lines. (drawn_by lines).pixel x y) last,
     )
 
-pub told_between : (script : List Drawing) (k from to : ℕ) (rows : List Bool)
+pub reported_between : (script : List Drawing) (k from to : ℕ) (rows : List Bool)
     → from ≡ length (lines_before script (k - 1)) → to ≡ length (lines_before script k)
     → MarksRows script from to rows
-    → TellsRows script k rows
-told_between script k from to rows from_is to_is marks pos lt r told =
-    let (i, le, below, draws) = marks r told in
+    → AreDrawnRows script k rows
+reported_between script k from to rows from_is to_is marks pos lt r reported =
+    let (i, le, below, draws) = marks r reported in
     (i, omega (arith, from_is, le), omega (arith, to_is, below), draws)
 
 pub not_marked : (n r : ℕ) → get_or (replicate n false) r false ≡ true → ⊥
-not_marked n r told = elim (cases_lt r n) [
-  | inl lt ↦ differ (get_or (replicate n false) r false) told (get_or-replicate n r false false lt)
+not_marked n r reported = elim (cases_lt r n) [
+  | inl lt ↦ differ (get_or (replicate n false) r false) reported (get_or-replicate n r false false lt)
   | inr past ↦
-      differ (get_or (replicate n false) r false) told
+      differ (get_or (replicate n false) r false) reported
       (get_or_past (replicate n false) r false (omega (arith, length-replicate n false, past)))
 ]
 

@@ -12,7 +12,7 @@ use Rattle.text_lines.specs.Text.{parsed_time}
 use Rattle.picture_script.specs.ShowLines.{is_show_line, show_lines, show_lines_from}
 use Rattle.picture_script.specs.declared.reasons.ScriptWhy.{ScriptWhy}
 use Rattle.picture_script.specs.declared.reasons.ScriptWhy.TheVariants.{UnknownCommand}
-use Rattle.picture_script.proofs.Refusals.{command_is, one_taken, reading_ends, step_heard, step_passed}
+use Rattle.picture_script.proofs.Refusals.{command_is, one_taken, reading_ends, step_read, step_passed}
 
 -- the number of pictures that a line adds
 abbrev adds : Drawing → ℕ
@@ -222,7 +222,7 @@ by_line before next line true is h =
 by_line before next line false is h =
     let shown : is_show_line line ≡ bytes_eq (get_or (words_in line) 0 []) (codes "show") =
     ap (λ b. not b && bytes_eq (get_or (words_in line) 0 []) (codes "show")) is in
-    by_words before next (words_in line) (sym (step_heard before line is) ∙ h)
+    by_words before next (words_in line) (sym (step_read before line is) ∙ h)
     ∙ ap (λ b. pictures before + shown_one b) (sym shown)
 
 one_more : (b : Bool) (number : ℕ) (rest : List ℕ)

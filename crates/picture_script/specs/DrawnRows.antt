@@ -27,6 +27,6 @@ MarksRows script from to rows = (r : ℕ) → slice_index_or rows r false ≡ tr
     → (i : ℕ) × (from ≤ i) × (i < to) × DrawsOn (slice_index_or script i (Border 0)) r
 
 -- If both pictures exist, a line between the show lines of the previous picture and of picture k draws on each marked row.
-abbrev pub TellsRows : List Drawing → ℕ → List Bool → Type 0
-TellsRows script k rows = 0 < k → k < pictures script
+abbrev pub AreDrawnRows : List Drawing → ℕ → List Bool → Type 0
+AreDrawnRows script k rows = 0 < k → k < pictures script
     → MarksRows script (length (lines_before script (k - 1))) (length (lines_before script k)) rows

@@ -1,7 +1,7 @@
 // A script: the lines that draw its pictures, and the times of the pictures.
 ghost use Rattle.std.specs.Prelude.{◌≡◌, ◌<◌, ◌≤◌, ◌+◌, ◌/◌, ◌⊎◌, ℕ, List, false, true, length, slice_index_or};
 ghost use Rattle.picture_script.specs.Script.{Picture, drawn};
-ghost use Rattle.picture_script.specs.DrawnRows.{DrawsOn, KeepsRows, LeavesRows, MarksRows, TellsRows};
+ghost use Rattle.picture_script.specs.DrawnRows.{DrawsOn, KeepsRows, LeavesRows, MarksRows, AreDrawnRows};
 ghost use Rattle.picture_script.specs.Lines.{is_kept, said};
 ghost use Rattle.cdg_instructions.specs.Sizes.{tile_height, window_rows};
 
@@ -164,7 +164,7 @@ impl Script {
     pub fn drawn_rows(&self, k: u32) -> [bool; WINDOW_ROWS]
         ensures keeps { KeepsRows self.now k result }
         // No other row is marked if both pictures exist.
-        ensures tells { TellsRows self.now k result }
+        ensures drawn { AreDrawnRows self.now k result }
     {
         if k == 0 || k >= self.pictures() {
             return [true; WINDOW_ROWS];

@@ -46,15 +46,15 @@ runs_line F stdin openers contents line words names one other first second old u
 -- a run of the line over a new output is a run of the program
 pub runs_program : (F : Type 0) {I O W : Type 0} (words : Result (IntoIter (String Global) Global) Error)
     (stdin : I)
-    (openers : O × O) (writer : W) (telling : RecordingWriter W) (line items : List (String Global))
+    (openers : O × O) (writer : W) (recorder : RecordingWriter W) (line items : List (String Global))
     (old new : Buffered (RecordingWriter W)) (result : Result Status Error) → AreOwnWords words items
-    → line ≡ items → telling.writer ≡ writer → telling.taken.bytes ≡ []
-    → old ≡ record { inner = telling; waiting = []; faults = 0; failed = 0; turn = 65536; room = 131072 }
+    → line ≡ items → recorder.writer ≡ writer → recorder.taken.bytes ≡ []
+    → old ≡ record { inner = recorder; waiting = []; faults = 0; failed = 0; turn = 65536; room = 131072 }
     → IfOk result (RunsLine F stdin openers taken_bytes line (from_to old new))
     → IfOk result (RunsProgram F words stdin openers writer)
-runs_program F words stdin openers writer telling line items old new (Err error) own items_are over nothing
+runs_program F words stdin openers writer recorder line items old new (Err error) own items_are over nothing
     made runs = runs
-runs_program F words stdin openers writer telling line items old new (Ok status) own items_are over nothing
+runs_program F words stdin openers writer recorder line items old new (Ok status) own items_are over nothing
     made runs =
     let Own : List (String Global) → Type 0 = AreOwnWords words in
     record {

@@ -4,7 +4,7 @@ use Rattle.std.specs.Io.Buffered.{reader_buffer, reader_capacity, reader_inner}
 use Rattle.std.specs.declared.alloc.Global.{Global}
 use Rattle.std.specs.declared.io.Error.{Error}
 use Rattle.std.specs.declared.io.buffered.BufReader.{BufReader}
-use Rattle.cdg_io.specs.Causes.{CountedReader, nothing_told}
+use Rattle.cdg_io.specs.Causes.{CountedReader, nothing_reported}
 use Rattle.ribjasper.specs.declared.inputs.InputReader.{InputReader}
 use Rattle.ribjasper.specs.declared.inputs.InputReader.TheVariants.{Empty, Missing, Named, Standard, Unopened}
 
@@ -85,4 +85,4 @@ pub record IsNewSource {I F O : Type 0} (reader : InputReader I F O) (source : I
   pub empty : reader_buffer source.inner ≡ []
   pub room : reader_capacity source.inner ≡ most_a_read reader
   pub faults : source.faults ≡ 0
-  pub tally : source.tally ≡ nothing_told
+  pub tally : source.tally ≡ nothing_reported

@@ -16,7 +16,7 @@ use Rattle.cdg_io.specs.Reads.{input}
 use Rattle.cdg_io.specs.Waiting.{Buffered, bytes_with_waiting}
 use Rattle.cdg_io.specs.declared.ends.Source.{Ghosts as Source}
 use Rattle.cdg_cmd.specs.Call.{call}
-use Rattle.cdg_cmd.specs.Faults.{TellsFaults}
+use Rattle.cdg_cmd.specs.Faults.{ReportsFaults}
 use Rattle.cdg_cmd.specs.Line.{error_line, exit_of}
 use Rattle.cdg_cmd.specs.Performs.{Performs}
 use Rattle.cdg_cmd.specs.Spelling.{Spells}
@@ -66,7 +66,7 @@ pub record RunsOver {I F O W : Type 0} (contents : W → Bytes) (words : List (L
       (input (input_source I F O) second.before second.after)
       (change (bytes_with_waiting contents) out.before out.after)
       (first.before, second.before, out.before) (first.after, second.after, out.after) answer
-  pub faults : TellsFaults (call (λ s. s.faults) (λ s. s.faults) (λ s. s.faults)
+  pub faults : ReportsFaults (call (λ s. s.faults) (λ s. s.faults) (λ s. s.faults)
       (first.before, second.before, out.before) (first.after, second.after, out.after)) answer
 
 -- The words of a line were run over new sources of the inputs that it names and over an output. Then the waiting bytes of
@@ -118,11 +118,11 @@ pub record RunsProgram (F : Type 0) {I O W : Type 0}
   pub runs : RunsLine F stdin openers taken_bytes line out status
 
 -- The line of a status was written to a new error output over this writer, unless a write failed.
-pub record TellsLine {E : Type 0} (writer : E) (status : Status) : Type 0 where
+pub record WritesStatusLine {E : Type 0} (writer : E) (status : Status) : Type 0 where
   pub err : Change (Counted (RecordingWriter E))
   pub over : err.before.inner.writer ≡ writer
   pub taken : err.before.inner.taken.bytes ≡ []
-  pub told : Rose err.before.faults err.after.faults
+  pub reported : Rose err.before.faults err.after.faults
       ⊎ Appends (taken_bytes err.before.inner) (taken_bytes err.after.inner) (error_line status)
 
 -- The program ran and printed the line of its status; or an allocation for its words or a buffer failed, and it printed
@@ -132,5 +132,5 @@ pub record EndsProgram (F : Type 0) {I O W E : Type 0}
     (machine : MachineStreams I O W E) (exit : ExitCode) : Type 0 where
   pub status : Status
   pub runs : RunsProgram F words machine.stdin machine.openers machine.stdout status ⊎ (status ≡ NoMemory)
-  pub tells : TellsLine machine.stderr status
+  pub status_line : WritesStatusLine machine.stderr status
   pub exits : exit_status exit ≡ exit_of status

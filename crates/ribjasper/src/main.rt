@@ -13,9 +13,9 @@ ghost use Rattle.std.specs.declared.io.Error.{Error};
 ghost use Rattle.cdg_io.specs.Causes.{Rose};
 ghost use Rattle.cdg_io.specs.Change.{from_to};
 ghost use Rattle.cdg_cmd.specs.Line.{error_line, exit_of};
-ghost use Rattle.ribjasper.specs.Runs.{AreOwnWords, EndsProgram, IsSettled, RunsLine, RunsProgram, TellsLine, words_of_command, input_names};
+ghost use Rattle.ribjasper.specs.Runs.{AreOwnWords, EndsProgram, IsSettled, RunsLine, RunsProgram, WritesStatusLine, words_of_command, input_names};
 
-use cdg_cmd::{Status, perform, read_words, split, tell};
+use cdg_cmd::{Status, perform, read_words, report_status, split};
 use cdg_io::{BufferedSink, Failed, WriteSink};
 use inputs::{InputReader, named};
 use machine::{FilesOf, MachineInput, MachineOutput, MachineStreams, Opener, RecordingWriter};
@@ -153,8 +153,8 @@ fn flushed<W: Write>(status: Status, out: &mut BufferedSink<W>) -> Status
 
 // Prints the line of a status. A failed write changes nothing.
 fn print_status<E: MachineOutput + Drop>(stderr: E, status: Status)
-    ensures { TellsLine stderr status }
+    ensures { WritesStatusLine stderr status }
 {
     let mut err = WriteSink::new(RecordingWriter::new(stderr));
-    let _told = tell(&mut err, status);
+    let _reported = report_status(&mut err, status);
 }

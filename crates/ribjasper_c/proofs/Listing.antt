@@ -12,7 +12,7 @@ use Rattle.cdtext_packs.specs.declared.kinds.TextFault.{TextFault}
 use Rattle.cdtext_packs.specs.declared.kinds.TextFault.TheVariants.{Missing, NoSize, Malformed, NoMemory}
 use Rattle.cdtext_packs.specs.declared.lead_in_texts.LeadInTexts.{LeadInTexts}
 use Rattle.stream_stages.specs.TextListing.{packs_in, texts_of_lead_in, IsTextFault, IsTextListed}
-use Rattle.ribjasper_c.specs.LeadIns.{fault_answer, fault_told, IsRefusedBy}
+use Rattle.ribjasper_c.specs.LeadIns.{fault_answer, listed_fault, IsRefusedBy}
 use Rattle.ribjasper_c.specs.declared.lead_in.Listed.{Listed}
 use Rattle.ribjasper_c.proofs.ExitNumbers.{is_other}
 
@@ -87,26 +87,27 @@ module _ (form : Form) (lead_in : ℕ) (stream : List ℕ) where
 
   -- the answer is the reason why the texts are refused
   abbrev Refusal : ℤ → Listed → Type 0
-  Refusal answer told = (fault : TextFault)
+  Refusal answer reported = (fault : TextFault)
       × IsRefusedBy fault form lead_in stream
       × (answer ≡ fault_answer fault)
-      × (told ≡ fault_told fault)
+      × (reported ≡ listed_fault fault)
 
-  pub refused_texts : (fault : TextFault) (answer : ℤ) (told : Listed)
+  pub refused_texts : (fault : TextFault) (answer : ℤ) (reported : Listed)
       → IsFaultOrShort fault (texts_of_lead_in form lead_in stream) → answer ≡ fault_answer fault
-      → (fault ≢ NoMemory → told ≡ fault_told fault) → (answer ≡ pos 8) ⊎ (answer ≡ pos 9) ⊎ (answer ≡ pos 10)
-      → Refusal answer told
-  refused_texts (Missing seq) answer told (inr is) same tells given =
-      (Missing seq, is, same, tells (λ e. (cc)))
-  refused_texts NoSize answer told (inr is) same tells given = (NoSize, is, same, tells (λ e. (cc)))
-  refused_texts (Malformed seq byte) answer told (inr is) same tells given =
-      (Malformed seq byte, is, same, tells (λ e. (cc)))
-  refused_texts (Missing seq) answer told (inl short) same tells given = absurd (cc)
-  refused_texts NoSize answer told (inl short) same tells given = absurd (cc)
-  refused_texts (Malformed seq byte) answer told (inl short) same tells given = absurd (cc)
-  refused_texts NoMemory answer told why same tells (inl e) =
-      is_other 7 8 (Refusal answer told) refl refl (sym same ∙ e)
-  refused_texts NoMemory answer told why same tells (inr (inl e)) =
-      is_other 7 9 (Refusal answer told) refl refl (sym same ∙ e)
-  refused_texts NoMemory answer told why same tells (inr (inr e)) =
-      is_other 7 10 (Refusal answer told) refl refl (sym same ∙ e)
+      → (fault ≢ NoMemory → reported ≡ listed_fault fault)
+      → (answer ≡ pos 8) ⊎ (answer ≡ pos 9) ⊎ (answer ≡ pos 10)
+      → Refusal answer reported
+  refused_texts (Missing seq) answer reported (inr is) same decides given =
+      (Missing seq, is, same, decides (λ e. (cc)))
+  refused_texts NoSize answer reported (inr is) same decides given = (NoSize, is, same, decides (λ e. (cc)))
+  refused_texts (Malformed seq byte) answer reported (inr is) same decides given =
+      (Malformed seq byte, is, same, decides (λ e. (cc)))
+  refused_texts (Missing seq) answer reported (inl short) same decides given = absurd (cc)
+  refused_texts NoSize answer reported (inl short) same decides given = absurd (cc)
+  refused_texts (Malformed seq byte) answer reported (inl short) same decides given = absurd (cc)
+  refused_texts NoMemory answer reported why same decides (inl e) =
+      is_other 7 8 (Refusal answer reported) refl refl (sym same ∙ e)
+  refused_texts NoMemory answer reported why same decides (inr (inl e)) =
+      is_other 7 9 (Refusal answer reported) refl refl (sym same ∙ e)
+  refused_texts NoMemory answer reported why same decides (inr (inr e)) =
+      is_other 7 10 (Refusal answer reported) refl refl (sym same ∙ e)

@@ -23,8 +23,9 @@ text_size form lead_in stream = symbols_a_slot * word_count form (length stream 
 
 -- The text has the packs of a stream. The report has its size, the number of program blocks, and that of packs with no
 -- codeword near.
-pub record IsToldOf (form : Form) (lead_in : ℕ) (stream text : List ℕ) (told : Converted) : Type 0 where
-  pub converted : IsConverted form lead_in stream text told.bad
-  pub bytes : told.bytes ≡ length text
+pub record IsConversionReport (form : Form) (lead_in : ℕ) (stream text : List ℕ) (counts : Converted)
+    : Type 0 where
+  pub converted : IsConverted form lead_in stream text counts.bad
+  pub bytes : counts.bytes ≡ length text
   pub size : length text ≡ text_size form lead_in stream
-  pub blocks : told.blocks ≡ length stream / unit_size form - lead_in
+  pub blocks : counts.blocks ≡ length stream / unit_size form - lead_in

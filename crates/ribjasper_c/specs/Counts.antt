@@ -13,8 +13,8 @@ form_number Cooked = 1
 form_number Sector = 2
 
 -- the counts of a player; the words are those of the blocks after the lead-in
-abbrev pub told_counts : LivePlayer → PlayerCounts
-told_counts player = record {
+abbrev pub player_counts : LivePlayer → PlayerCounts
+player_counts player = record {
   words = word_count player.words.form (player.blocks - player.lead_in);
   form = form_number player.words.form;
   lead_in = player.lead_in;

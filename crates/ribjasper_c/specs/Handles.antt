@@ -52,10 +52,10 @@ pub record IsShownByPlayer (player : LivePlayer) (now : Standing) : Type 0 where
   pub packs : (form : Form) (lead_in : ℕ) (given : List Given) → HasPlayed form lead_in given player
       → blocks_in given ≡ [] → now ≡ standing_after blank (map instruction_of (packs_given given))
 
--- `tells` holds for the screen of the one player.
+-- `property` holds for the screen of the one player.
 abbrev pub PlayersShow : List LivePlayer → (Standing → Type 0) → Type 0
-PlayersShow players tells = (player : LivePlayer) → players ≡ player ∷ []
-    → (now : Standing) × IsShownByPlayer player now × tells now
+PlayersShow players property = (player : LivePlayer) → players ≡ player ∷ []
+    → (now : Standing) × IsShownByPlayer player now × property now
 
 -- a call of f with a `&` to a player with this screen, and a `&mut` to the old value, can leave the new value
 pub record IsWrittenBy {F T : Type 0}

@@ -21,10 +21,10 @@ fault_answer (Malformed seq byte) = pos 10
 fault_answer NoMemory = pos 7
 
 -- the report if packs have no texts: the number of a pack, and of its byte
-abbrev pub fault_told : TextFault → Listed
-fault_told (Missing seq) = record { bytes = 0; seq = seq; byte = 0 }
-fault_told (Malformed seq byte) = record { bytes = 0; seq = seq; byte = byte }
-fault_told _ = record { bytes = 0; seq = 0; byte = 0 }
+abbrev pub listed_fault : TextFault → Listed
+listed_fault (Missing seq) = record { bytes = 0; seq = seq; byte = 0 }
+listed_fault (Malformed seq byte) = record { bytes = 0; seq = seq; byte = byte }
+listed_fault _ = record { bytes = 0; seq = 0; byte = 0 }
 
 -- this is why the packs of the lead-in have no texts
 abbrev pub IsRefusedBy : TextFault → Form → ℕ → List ℕ → Type 0
@@ -32,10 +32,10 @@ IsRefusedBy fault form lead_in stream = texts_of_lead_in form lead_in stream ≡
 
 -- The lines of the texts of a lead-in are at the front of a buffer, with a correct report; or the result says why not.
 pub record WritesTextsOfLeadIn (stream : List ℕ) (form lead_in : ℕ) (old new : List ℕ)
-    (old_told new_told : Listed) (result : ℤ) : Type 0 where
+    (old_report new_report : Listed) (result : ℤ) : Type 0 where
   pub done : result ≡ pos 0 → (text : List ℕ) × IsTextListed (stream_form form) lead_in stream text 0
       × (new ≡ text ++ drop (length text) old)
-      × (new_told ≡ record { bytes = length text; seq = 0; byte = 0 })
+      × (new_report ≡ record { bytes = length text; seq = 0; byte = 0 })
   pub usage : (result ≡ pos 2) ↔ ((form ≡ 1) ⊎ (2 < form) ⊎ (most_lead_in < lead_in))
   pub refused : result ≡ pos 3 → ¬ IsWholeInput (stream_form form) stream
   pub whole : result ≢ pos 2 → result ≢ pos 3 → IsWholeInput (stream_form form) stream
@@ -43,11 +43,11 @@ pub record WritesTextsOfLeadIn (stream : List ℕ) (form lead_in : ℕ) (old new
       × (length old < length text)
   pub texts : (result ≡ pos 8) ⊎ (result ≡ pos 9) ⊎ (result ≡ pos 10) → (fault : TextFault)
       × IsRefusedBy fault (stream_form form) lead_in stream
-      × (result ≡ fault_answer fault) × (new_told ≡ fault_told fault)
+      × (result ≡ fault_answer fault) × (new_report ≡ listed_fault fault)
   -- the call allocates lines only if the packs have texts
   pub memory : result ≡ pos 7 → IsOk (texts_of_lead_in (stream_form form) lead_in stream)
   pub answer : (result ≡ pos 0) ⊎ (result ≡ pos 2) ⊎ (result ≡ pos 3) ⊎ (result ≡ pos 6)
       ⊎ (result ≡ pos 7) ⊎ (result ≡ pos 8) ⊎ (result ≡ pos 9) ⊎ (result ≡ pos 10)
   pub untouched : result ≢ pos 0 → new ≡ old
   pub same : (result ≡ pos 2) ⊎ (result ≡ pos 3) ⊎ (result ≡ pos 6) ⊎ (result ≡ pos 7)
-      → new_told ≡ old_told
+      → new_report ≡ old_report

@@ -23,18 +23,18 @@ refusal_of first second lead_in room =
     else None))
 
 -- The packs of both readings are at the front of the room, and the result is right.
-pub record AreMendedInto (lead_in : ℕ) (first second old new : List ℕ) (told : MendedStream) : Type 0 where
-  pub mended : IsMendedInto lead_in first second old new told.words
-  pub bytes : told.bytes ≡ symbols_a_slot * whole_packs (length first / block_bytes - lead_in)
-  pub blocks : told.blocks ≡ length first / block_bytes - lead_in
+pub record AreMendedInto (lead_in : ℕ) (first second old new : List ℕ) (counts : MendedStream) : Type 0 where
+  pub mended : IsMendedInto lead_in first second old new counts.words
+  pub bytes : counts.bytes ≡ symbols_a_slot * whole_packs (length first / block_bytes - lead_in)
+  pub blocks : counts.blocks ≡ length first / block_bytes - lead_in
 
 -- The packs of all readings are at the front of the room. Their sources are at the front of theirs, if there is room for
 -- sources. The result is right.
 pub record AreReadingsMended (count lead_in : ℕ) (readings old new old_sources new_sources : List ℕ)
-    (told : MendedReadings) : Type 0 where
-  pub mended : Many.AreAllMendedInto count lead_in readings old new old_sources new_sources told.words
-  pub bytes : told.bytes ≡ symbols_a_slot * words_in_each count lead_in readings
-  pub blocks : told.blocks ≡ length readings / count / block_bytes - lead_in
+    (counts : MendedReadings) : Type 0 where
+  pub mended : Many.AreAllMendedInto count lead_in readings old new old_sources new_sources counts.words
+  pub bytes : counts.bytes ≡ symbols_a_slot * words_in_each count lead_in readings
+  pub blocks : counts.blocks ≡ length readings / count / block_bytes - lead_in
 
 -- The exit status with which readings of this total size are refused as a stream. It is 2 or 3 as for packs
 -- (`readings_refusal`), else 6 if the room is smaller than a reading or the room for sources is smaller than the words.
@@ -51,26 +51,26 @@ stream_refusal length_of_all count lead_in room sources =
 -- The stream of all readings is at the front of the room, the sources of its words are at the front of theirs, and the
 -- result is right.
 pub record IsStreamMended (count lead_in : ℕ) (readings old new old_sources new_sources : List ℕ)
-    (told : MendedReadings) : Type 0 where
-  pub mended : AreMendedIntoStream count lead_in readings old new old_sources new_sources told.words
-  pub bytes : told.bytes ≡ length readings / count
-  pub blocks : told.blocks ≡ length readings / count / block_bytes - lead_in
+    (counts : MendedReadings) : Type 0 where
+  pub mended : AreMendedIntoStream count lead_in readings old new old_sources new_sources counts.words
+  pub bytes : counts.bytes ≡ length readings / count
+  pub blocks : counts.blocks ≡ length readings / count / block_bytes - lead_in
 
 -- The report on readings mended into packs is right.
 pub record AreReadingsReported (count lead_in : ℕ) (readings old new old_sources new_sources : List ℕ)
     (report : MendReported) : Type 0 where
-  pub mended : Many.AreAllReported count lead_in readings old new old_sources new_sources report.told.words
+  pub mended : Many.AreAllReported count lead_in readings old new old_sources new_sources report.counts.words
       report.lost
-  pub bytes : report.told.bytes ≡ symbols_a_slot * words_in_each count lead_in readings
-  pub blocks : report.told.blocks ≡ length readings / count / block_bytes - lead_in
+  pub bytes : report.counts.bytes ≡ symbols_a_slot * words_in_each count lead_in readings
+  pub blocks : report.counts.blocks ≡ length readings / count / block_bytes - lead_in
 
 -- The report on readings mended into a stream is right.
 pub record IsStreamReported (count lead_in : ℕ) (readings old new old_sources new_sources : List ℕ)
     (report : MendReported) : Type 0 where
-  pub mended : AreReportedIntoStream count lead_in readings old new old_sources new_sources report.told.words
-      report.lost
-  pub bytes : report.told.bytes ≡ length readings / count
-  pub blocks : report.told.blocks ≡ length readings / count / block_bytes - lead_in
+  pub mended : AreReportedIntoStream count lead_in readings old new old_sources new_sources
+      report.counts.words report.lost
+  pub bytes : report.counts.bytes ≡ length readings / count
+  pub blocks : report.counts.blocks ≡ length readings / count / block_bytes - lead_in
 
 -- ---- The sizes of readings.
 

@@ -10,7 +10,7 @@ no_pack = record { symbols = []; wrong = pos 0 }
 -- The packs are these words in this order: each has the codeword near a word and the number of wrong symbols, or the word
 -- itself and -1. The packs after them are unchanged.
 pub record AreReadAs (words : List (List ℕ)) (old new : List ReadPack) : Type 0 where
-  pub told : (i : ℕ) → i < length words
+  pub reported : (i : ℕ) → i < length words
       → IsCorrected (slice_index_or words i []) (slice_index_or words i [])
       (slice_index_or new i no_pack).symbols (slice_index_or new i no_pack).wrong
   pub rest : drop (length words) new ≡ drop (length words) old

@@ -6,11 +6,11 @@ use Rattle.cue_sheet.specs.Grammar.{read_cue}
 use Rattle.cue_sheet.specs.declared.fault.CueText.{CueText}
 use Rattle.cue_sheet.specs.declared.fault.CueText.TheVariants.{Title, Performer, Songwriter}
 use Rattle.cue_sheet.specs.declared.fault.CueWhy.{CueWhy}
-use Rattle.disc_plan.specs.SheetRows.{told_refusal, AreRowsOf, IsRowsStop, IsTextOf, IsTextOfSheet, IsTextStop}
+use Rattle.disc_plan.specs.SheetRows.{refusal_report, AreRowsOf, IsRowsStop, IsTextOf, IsTextOfSheet, IsTextStop}
 use Rattle.disc_plan.specs.declared.index_rows.SheetRow.{SheetRow}
 use Rattle.disc_plan.specs.declared.stops.SheetStop.TheVariants.{NoRoom}
 use Rattle.disc_plan.specs.declared.stops.TextStop.TheVariants.{NoTrack, NoRoom as no_room_for}
-use Rattle.disc_plan.specs.declared.told.ToldSheet.{ToldSheet}
+use Rattle.disc_plan.specs.declared.reports.SheetReport.{SheetReport}
 
 -- the kind of texts with a number: 0 titles, 1 performers, 2 songwriters
 abbrev pub text_kind : ℕ → CueText
@@ -24,17 +24,17 @@ IsSheetAnswer result = (result ≡ pos 0) ⊎ (result ≡ pos 2) ⊎ (result ≡
 -- The rows of the index lines of a sheet are at the front of some rows, with a correct report of the sheet; or the
 -- report says why not.
 pub record WritesRowsOfSheet (sheet : List ℕ) (old_rows new_rows : List SheetRow)
-    (old_told new_told : ToldSheet) (result : ℤ) : Type 0 where
-  pub rows : result ≡ pos 0 → AreRowsOf sheet old_rows new_rows new_told
+    (old_report new_report : SheetReport) (result : ℤ) : Type 0 where
+  pub rows : result ≡ pos 0 → AreRowsOf sheet old_rows new_rows new_report
   pub long : (result ≡ pos 2) ↔ (most_text_bytes < length sheet)
   pub refused : result ≡ pos 3 → (line : ℕ) × (why : CueWhy)
-      × (read_cue sheet ≡ Err (line, why)) × (new_told ≡ told_refusal line why)
-  pub small : result ≡ pos 6 → IsRowsStop sheet (length old_rows) (NoRoom new_told)
+      × (read_cue sheet ≡ Err (line, why)) × (new_report ≡ refusal_report line why)
+  pub small : result ≡ pos 6 → IsRowsStop sheet (length old_rows) (NoRoom new_report)
   -- only a valid sheet can be out of memory
   pub memory : result ≡ pos 7 → (read : CueSheet) × IsTextOfSheet sheet read
   pub answer : IsSheetAnswer result
   pub untouched : result ≢ pos 0 → new_rows ≡ old_rows
-  pub same : (result ≡ pos 2) ⊎ (result ≡ pos 7) → new_told ≡ old_told
+  pub same : (result ≡ pos 2) ⊎ (result ≡ pos 7) → new_report ≡ old_report
 
 -- A text of a sheet is at the front of some bytes, with its size; or the result says why not.
 pub record WritesTextOfSheet (sheet : List ℕ) (kind place : ℕ) (old new : List ℕ)

@@ -19,8 +19,8 @@ survey_answer form lead_in blocks room =
     else pos 0
 
 -- the report of a survey: the whole blocks and the bytes after them
-abbrev pub survey_told : Form → List ℕ → Surveyed
-survey_told form bytes = record {
+abbrev pub survey_counts : Form → List ℕ → Surveyed
+survey_counts form bytes = record {
   blocks = whole_blocks form bytes;
   rest = length bytes % unit_size form;
 }

@@ -1,7 +1,7 @@
 // The results of calls and their meanings: the exit statuses of the program, and more numbers for texts that are
 // refused.
 ghost use Rattle.std.specs.Prelude.{◌≡◌, ◌-◌, ◌≤◌, ◌++◌, drop, length, replicate};
-ghost use Rattle.ribjasper_c.specs.Telling.{answer_text};
+ghost use Rattle.ribjasper_c.specs.Reporting.{answer_text};
 
 /// The call is refused: a player is closed or cannot be saved, or a number is out of its range.
 pub(crate) const NOT_DONE: i32 = -1;

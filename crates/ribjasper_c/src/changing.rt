@@ -4,7 +4,7 @@ ghost use Rattle.cdg_io.specs.Run.{run_state};
 ghost use Rattle.cdg_screen.specs.Standing.{IsWholeStanding, Standing, standing_after};
 ghost use Rattle.live_player.specs.Lives.{instruction_of};
 ghost use Rattle.live_player.specs.Lives.Given.{Drawn, Fed};
-ghost use Rattle.live_player.specs.Changes.{sees, watch_from, KeepsUntold};
+ghost use Rattle.live_player.specs.Changes.{sees, watch_from, KeepsUnchanged};
 ghost use Rattle.live_player.specs.Taken.{DrawsPacksReported, FeedsBlocks};
 ghost use Rattle.ribjasper_c.specs.Answers.{done_if};
 ghost use Rattle.ribjasper_c.specs.Giving.{GivesPlayer};
@@ -66,10 +66,10 @@ pub extern "C" fn ribjasper_pack_change(
     down: u8,
     change: &mut ScreenChange,
 ) -> i32
-    ensures told { result ≡ pos 0
+    ensures reported { result ≡ pos 0
         → change.new ≡ (run_state sees (watch_from across down) (instruction_of pack.now ∷ [])).change }
     ensures keeps { result ≡ pos 0 → (now : Standing) → IsWholeStanding now → now.h ≡ across → now.v ≡ down
-        → KeepsUntold change.new now (standing_after now (instruction_of pack.now ∷ [])) }
+        → KeepsUnchanged change.new now (standing_after now (instruction_of pack.now ∷ [])) }
     ensures answer { result ≡ done_if (nat_le across 5 && nat_le down 11) }
     ensures refused { result ≡ negsuc 0 → change.new ≡ change.old }
 {

@@ -4,7 +4,7 @@ ghost use Rattle.raw_subcode.specs.Sizes.{most_units, symbols_a_slot};
 ghost use Rattle.disc_time.specs.Counts.{most_lead_in};
 ghost use Rattle.raw_subcode.specs.Channels.{block_of, unit_size};
 ghost use Rattle.cdg_io.specs.Pump.{given_bytes};
-ghost use Rattle.ribjasper_c.specs.Conversions.{stream_form, text_size, IsNoStream, IsToldOf};
+ghost use Rattle.ribjasper_c.specs.Conversions.{stream_form, text_size, IsNoStream, IsConversionReport};
 ghost use Rattle.rw_interleave.specs.Stream.{word_count};
 ghost use Rattle.stream_stages.specs.Convert.{IsConverted};
 ghost use Rattle.stream_stages.specs.Steps.{fresh_words};
@@ -37,13 +37,13 @@ pub extern "C" fn ribjasper_convert(
     form: u32,
     lead_in: u32,
     packs: &mut [u8],
-    told: &mut Converted,
+    counts: &mut Converted,
 ) -> i32
     ensures done { (result ≡ pos 0) ⊎ (result ≡ pos 1) → (text : List ℕ)
-        × IsToldOf (stream_form form) lead_in stream.now text told.new
+        × IsConversionReport (stream_form form) lead_in stream.now text counts.new
         × (packs.new ≡ text ++ drop (length text) packs.old) }
-    ensures whole { result ≡ pos 0 → told.new.bad ≡ 0 }
-    ensures damaged { result ≡ pos 1 → 0 < told.new.bad }
+    ensures whole { result ≡ pos 0 → counts.new.bad ≡ 0 }
+    ensures damaged { result ≡ pos 1 → 0 < counts.new.bad }
     ensures usage { (result ≡ pos 2) ↔ ((2 < form) ⊎ (most_lead_in < lead_in)) }
     ensures refused { (result ≡ pos 3)
         ↔ (form ≤ 2) × (lead_in ≤ most_lead_in) × IsNoStream (stream_form form) stream.now }
@@ -52,7 +52,8 @@ pub extern "C" fn ribjasper_convert(
         × (length packs.old < text_size (stream_form form) lead_in stream.now) }
     ensures answer { (result ≡ pos 0) ⊎ (result ≡ pos 1) ⊎ (result ≡ pos 2) ⊎ (result ≡ pos 3)
         ⊎ (result ≡ pos 6) }
-    ensures untouched { result ≢ pos 0 → result ≢ pos 1 → (packs.new ≡ packs.old) × (told.new ≡ told.old) }
+    ensures untouched { result ≢ pos 0 → result ≢ pos 1
+        → (packs.new ≡ packs.old) × (counts.new ≡ counts.old) }
 {
     if form > 2 || lead_in > MOST_LEAD_IN {
         return USAGE;
@@ -66,7 +67,7 @@ pub extern "C" fn ribjasper_convert(
         return WRITE_FAULT;
     }
     let bad = write_packs(form, lead_in, stream, units, packs);
-    *told = Converted {
+    *counts = Converted {
         bytes: size as u64,
         blocks: units.saturating_sub(lead_in),
         bad,

@@ -3,7 +3,7 @@ ghost use Rattle.std.specs.Prelude.{◌≡◌, ◌^◌, ◌-◌, ◌∷◌, [], 
 ghost use Rattle.live_player.specs.Lives.{Given, bad_words_in, blocks_in};
 ghost use Rattle.live_player.specs.declared.live.LivePlayer.{LivePlayer};
 ghost use Rattle.raw_subcode.specs.declared.form.Form.{Form};
-ghost use Rattle.ribjasper_c.specs.Counts.{told_counts, form_number};
+ghost use Rattle.ribjasper_c.specs.Counts.{player_counts, form_number};
 ghost use Rattle.ribjasper_c.specs.Handles.{IsPlaying};
 ghost use Rattle.rw_interleave.specs.Stream.{word_count};
 ghost use Rattle.ribjasper_c.specs.Looking.{IsUnchanged};
@@ -35,7 +35,7 @@ pub struct PlayerCounts {
 #[unsafe(no_mangle)]
 pub extern "C" fn ribjasper_player_counts(player: &mut Playing, counts: &mut PlayerCounts) -> i32
     ensures counts { result ≡ pos 0 → (live : LivePlayer) → player.old.handle.players ≡ live ∷ []
-        → counts.new ≡ told_counts live }
+        → counts.new ≡ player_counts live }
     // If it is known what the player was given.
     ensures blocks { result ≡ pos 0 → (form : Form) (lead_in : ℕ) (given : List Given)
         → IsPlaying form lead_in given player.old.handle.players
@@ -55,7 +55,7 @@ pub extern "C" fn ribjasper_player_counts(player: &mut Playing, counts: &mut Pla
 }
 
 fn counted(live: &LivePlayer) -> PlayerCounts
-    ensures { result ≡ told_counts live.now }
+    ensures { result ≡ player_counts live.now }
 {
     PlayerCounts {
         words: words_of(live.words.form, live.blocks.saturating_sub(live.lead_in)),

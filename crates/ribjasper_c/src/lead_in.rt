@@ -1,6 +1,6 @@
 // The packs and the texts of a lead-in.
 ghost use Rattle.std.specs.Prelude.{◌≡◌, ◌≢◌, ◌<◌, ◌≤◌, ◌↔◌, ◌++◌, ◌+◌, ◌*◌, IsTrue, IfOk, IfErr, Ok, Some, pos, length, take, drop};
-ghost use Rattle.cdg_io.specs.Causes.{HasCause, Rose, TellsFault};
+ghost use Rattle.cdg_io.specs.Causes.{HasCause, Rose, ReportsFault};
 ghost use Rattle.disc_time.specs.Counts.{most_lead_in};
 ghost use Rattle.cdtext_packs.specs.Reading.{read_texts};
 ghost use Rattle.cdtext_packs.specs.TextLines.{counted_lines};
@@ -8,7 +8,7 @@ ghost use Rattle.cdtext_packs.specs.TextSteps.{HasRead};
 ghost use Rattle.cdtext_packs.specs.Texts.{Texts};
 ghost use Rattle.cdtext_packs.specs.declared.kinds.TextFault.{TextFault};
 ghost use Rattle.ribjasper_c.specs.Conversions.{stream_form};
-ghost use Rattle.ribjasper_c.specs.LeadIns.{fault_answer, fault_told, ArePacksOf, WritesTextsOfLeadIn};
+ghost use Rattle.ribjasper_c.specs.LeadIns.{fault_answer, listed_fault, ArePacksOf, WritesTextsOfLeadIn};
 ghost use Rattle.stream_stages.specs.TextListing.{packs_in, IsTextFault, IsTextListed, IsWholeInput, texts_of_lead_in};
 
 use crate::answers::{
@@ -64,11 +64,11 @@ pub extern "C" fn ribjasper_texts(
     form: u32,
     lead_in: u32,
     out: &mut [u8],
-    told: &mut Listed,
+    listed: &mut Listed,
 ) -> i32
-    ensures { WritesTextsOfLeadIn stream.now form lead_in out.old out.new told.old told.new result }
+    ensures { WritesTextsOfLeadIn stream.now form lead_in out.old out.new listed.old listed.new result }
 {
-    texts_in(&mut Heap::new(alloc), stream, form, lead_in, out, told)
+    texts_in(&mut Heap::new(alloc), stream, form, lead_in, out, listed)
 }
 
 // Does the work of `ribjasper_texts`. The heap counts failed requests for memory.
@@ -78,11 +78,12 @@ fn texts_in(
     form: u32,
     lead_in: u32,
     out: &mut [u8],
-    told: &mut Listed,
+    listed: &mut Listed,
 ) -> i32
-    ensures writes { WritesTextsOfLeadIn stream.now form lead_in out.old out.new told.old told.new result }
+    ensures writes { WritesTextsOfLeadIn stream.now form lead_in
+        out.old out.new listed.old listed.new result }
     // The answer is 7 exactly if a request for memory failed.
-    ensures wants { result ≡ pos 7 → Rose heap.old heap.new }
+    ensures allocations { result ≡ pos 7 → Rose heap.old heap.new }
     ensures found { result ≢ pos 7 → heap.new ≡ heap.old }
 {
     if form == 1 || form > 2 || lead_in > MOST_LEAD_IN {
@@ -94,13 +95,13 @@ fn texts_in(
     }
     let lines = match lines_of(heap, form, lead_in, stream) {
         Ok(lines) => lines,
-        Err(fault) => return refuse(fault, told),
+        Err(fault) => return refuse(fault, listed),
     };
     if lines.len() > out.len() {
         return WRITE_FAULT;
     }
     copy_front(&lines, out);
-    *told = Listed {
+    *listed = Listed {
         bytes: lines.len() as u64,
         seq: 0,
         byte: 0,
@@ -117,22 +118,22 @@ fn is_whole(form: Form, stream: &[u8]) -> bool
 }
 
 // Reports why texts are refused.
-fn refuse(fault: TextFault, told: &mut Listed) -> i32
+fn refuse(fault: TextFault, listed: &mut Listed) -> i32
     ensures answer { result ≡ fault_answer fault }
-    ensures told { fault ≢ TextFault.NoMemory → told.new ≡ fault_told fault }
-    ensures same { fault ≡ TextFault.NoMemory → told.new ≡ told.old }
+    ensures listed { fault ≢ TextFault.NoMemory → listed.new ≡ listed_fault fault }
+    ensures same { fault ≡ TextFault.NoMemory → listed.new ≡ listed.old }
 {
     match fault {
         TextFault::Missing { seq } => {
-            tell(told, seq, 0);
+            list_fault(listed, seq, 0);
             TEXT_MISSING
         }
         TextFault::NoSize => {
-            tell(told, 0, 0);
+            list_fault(listed, 0, 0);
             TEXT_NO_SIZE
         }
         TextFault::Malformed { seq, byte } => {
-            tell(told, seq, byte);
+            list_fault(listed, seq, byte);
             TEXT_MALFORMED
         }
         TextFault::NoMemory => NO_MEMORY,
@@ -140,10 +141,10 @@ fn refuse(fault: TextFault, told: &mut Listed) -> i32
 }
 
 // Reports a pack and one of its bytes, and no written bytes.
-fn tell(told: &mut Listed, seq: u8, byte: u8)
-    ensures { told.new ≡ record { bytes = 0; seq = seq; byte = byte } }
+fn list_fault(listed: &mut Listed, seq: u8, byte: u8)
+    ensures { listed.new ≡ record { bytes = 0; seq = seq; byte = byte } }
 {
-    *told = Listed {
+    *listed = Listed {
         bytes: 0,
         seq: u32::from(seq),
         byte: u32::from(byte),
@@ -154,7 +155,7 @@ fn lines_of(heap: &mut Heap, form: Form, lead_in: u32, stream: &[u8]) -> Result<
     requires { lead_in ≤ most_lead_in }
     ensures lines { IfOk result (λ lines. IsTextListed form lead_in stream.now lines.items 0) }
     ensures fault { IfErr result (λ fault. IsTextFault fault (texts_of_lead_in form lead_in stream.now)) }
-    ensures wants { TellsFault TextFault.NoMemory heap.old heap.new result }
+    ensures allocations { ReportsFault TextFault.NoMemory heap.old heap.new result }
 {
     let mut texts = LeadInTexts::start();
     read_lead_in(&mut texts, form, lead_in, stream);
@@ -181,7 +182,7 @@ fn write_texts(heap: &mut Heap, texts: &LeadInTexts) -> Result<Vec<u8>, TextFaul
     ensures lines { IfOk result (λ lines. (map : Texts) × (read_texts texts.now.reader ≡ Ok map)
         × (lines.items ≡ counted_lines map texts.now.good texts.now.bad texts.now.other)) }
     ensures fault { IfErr result (λ fault. IsTextFault fault (read_texts texts.now.reader)) }
-    ensures wants { TellsFault TextFault.NoMemory heap.old heap.new result }
+    ensures allocations { ReportsFault TextFault.NoMemory heap.old heap.new result }
 {
     let map = match finish(heap, texts) {
         Ok(map) => map,
@@ -199,7 +200,7 @@ fn write_texts(heap: &mut Heap, texts: &LeadInTexts) -> Result<Vec<u8>, TextFaul
 fn finish(heap: &mut Heap, texts: &LeadInTexts) -> Result<TextMap, TextFault>
     ensures texts { IfOk result (λ map. read_texts texts.now.reader ≡ Ok map) }
     ensures fault { IfErr result (λ fault. IsTextFault fault (read_texts texts.now.reader)) }
-    ensures wants { TellsFault TextFault.NoMemory heap.old heap.new result }
+    ensures allocations { ReportsFault TextFault.NoMemory heap.old heap.new result }
 {
     heap.asked(|alloc| texts.reader.finish(alloc))
 }

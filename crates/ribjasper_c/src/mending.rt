@@ -32,20 +32,20 @@ pub extern "C" fn ribjasper_mend(
     second: &[u8],
     lead_in: u32,
     packs: &mut [u8],
-    told: &mut MendedStream,
+    counts: &mut MendedStream,
 ) -> i32
     ensures mended { refusal_of (length first.now) (length second.now) lead_in (length packs.old) ≡ None
-        → AreMendedInto lead_in first.now second.now packs.old packs.new told.new
-        × (result ≡ (if told.new.words.none == 0 then pos 0 else pos 1)) }
+        → AreMendedInto lead_in first.now second.now packs.old packs.new counts.new
+        × (result ≡ (if counts.new.words.none == 0 then pos 0 else pos 1)) }
     ensures refused { IfSome (refusal_of (length first.now) (length second.now) lead_in (length packs.old))
-        (λ number. (result ≡ pos number) × (packs.new ≡ packs.old) × (told.new ≡ told.old)) }
+        (λ number. (result ≡ pos number) × (packs.new ≡ packs.old) × (counts.new ≡ counts.old)) }
 {
     let shape = match Shape::of_two(first.len(), second.len(), lead_in, packs.len()) {
         Ok(shape) => shape,
         Err(status) => return status,
     };
     let words = mend_streams(first, second, lead_in, packs);
-    *told = MendedStream {
+    *counts = MendedStream {
         bytes: shape.text() as u64,
         blocks: shape.blocks,
         words,
@@ -74,23 +74,23 @@ pub extern "C" fn ribjasper_mend_readings(
     lead_in: u32,
     packs: &mut [u8],
     sources: &mut [u8],
-    told: &mut MendedReadings,
+    counts: &mut MendedReadings,
 ) -> i32
     ensures mended { readings_refusal (length readings.now) count lead_in (length packs.old)
         (length sources.old) ≡ None
-        → AreReadingsMended count lead_in readings.now packs.old packs.new sources.old sources.new told.new
-        × (result ≡ (if told.new.words.none == 0 then pos 0 else pos 1)) }
+        → AreReadingsMended count lead_in readings.now packs.old packs.new sources.old sources.new counts.new
+        × (result ≡ (if counts.new.words.none == 0 then pos 0 else pos 1)) }
     ensures refused { IfSome (readings_refusal (length readings.now) count lead_in (length packs.old)
         (length sources.old))
         (λ number. (result ≡ pos number) × (packs.new ≡ packs.old) × (sources.new ≡ sources.old)
-        × (told.new ≡ told.old)) }
+        × (counts.new ≡ counts.old)) }
 {
     let shape = match Shape::in_packs(readings.len(), count, lead_in, packs.len(), sources.len()) {
         Ok(shape) => shape,
         Err(status) => return status,
     };
     let words = mend_readings(readings, count as usize, lead_in, packs, sources);
-    *told = shape.packs(words);
+    *counts = shape.packs(words);
     outcome(words.none)
 }
 
@@ -103,16 +103,16 @@ pub extern "C" fn ribjasper_mend_stream(
     lead_in: u32,
     blocks: &mut [u8],
     sources: &mut [u8],
-    told: &mut MendedReadings,
+    counts: &mut MendedReadings,
 ) -> i32
     ensures mended { stream_refusal (length readings.now) count lead_in (length blocks.old)
         (length sources.old) ≡ None
-        → IsStreamMended count lead_in readings.now blocks.old blocks.new sources.old sources.new told.new
-        × (result ≡ (if told.new.words.none == 0 then pos 0 else pos 1)) }
+        → IsStreamMended count lead_in readings.now blocks.old blocks.new sources.old sources.new counts.new
+        × (result ≡ (if counts.new.words.none == 0 then pos 0 else pos 1)) }
     ensures refused { IfSome (stream_refusal (length readings.now) count lead_in (length blocks.old)
         (length sources.old))
         (λ number. (result ≡ pos number) × (blocks.new ≡ blocks.old) × (sources.new ≡ sources.old)
-        × (told.new ≡ told.old)) }
+        × (counts.new ≡ counts.old)) }
 {
     let shape = match Shape::in_stream(
         readings.len(),
@@ -125,7 +125,7 @@ pub extern "C" fn ribjasper_mend_stream(
         Err(status) => return status,
     };
     let words = mend_stream(readings, count as usize, lead_in, blocks, sources);
-    *told = shape.stream(words);
+    *counts = shape.stream(words);
     outcome(words.none)
 }
 
@@ -134,7 +134,7 @@ pub extern "C" fn ribjasper_mend_stream(
 #[derive(Clone, Copy)]
 pub struct MendReported {
     /// The result of the same call without a report.
-    pub told: MendedReadings,
+    pub counts: MendedReadings,
     /// The number of error-free words of each reading that are not in the output.
     pub lost: [u32; MOST_READINGS],
 }
@@ -153,7 +153,7 @@ pub extern "C" fn ribjasper_mend_report(
         (length sources.old) ≡ None
         → AreReadingsReported count lead_in readings.now packs.old packs.new sources.old sources.new
         report.new
-        × (result ≡ (if report.new.told.words.none == 0 then pos 0 else pos 1)) }
+        × (result ≡ (if report.new.counts.words.none == 0 then pos 0 else pos 1)) }
     ensures refused { IfSome (readings_refusal (length readings.now) count lead_in (length packs.old)
         (length sources.old))
         (λ number. (result ≡ pos number) × (packs.new ≡ packs.old) × (sources.new ≡ sources.old)
@@ -166,7 +166,7 @@ pub extern "C" fn ribjasper_mend_report(
     let mended = mend_report(readings, count as usize, lead_in, packs, sources);
     let lost = mended.lost;
     *report = MendReported {
-        told: shape.packs(mended.tallies),
+        counts: shape.packs(mended.tallies),
         lost,
     };
     outcome(mended.tallies.none)
@@ -185,7 +185,7 @@ pub extern "C" fn ribjasper_mend_stream_report(
     ensures mended { stream_refusal (length readings.now) count lead_in (length blocks.old)
         (length sources.old) ≡ None
         → IsStreamReported count lead_in readings.now blocks.old blocks.new sources.old sources.new report.new
-        × (result ≡ (if report.new.told.words.none == 0 then pos 0 else pos 1)) }
+        × (result ≡ (if report.new.counts.words.none == 0 then pos 0 else pos 1)) }
     ensures refused { IfSome (stream_refusal (length readings.now) count lead_in (length blocks.old)
         (length sources.old))
         (λ number. (result ≡ pos number) × (blocks.new ≡ blocks.old) × (sources.new ≡ sources.old)
@@ -204,7 +204,7 @@ pub extern "C" fn ribjasper_mend_stream_report(
     let mended = mend_stream_report(readings, count as usize, lead_in, blocks, sources);
     let lost = mended.lost;
     *report = MendReported {
-        told: shape.stream(mended.tallies),
+        counts: shape.stream(mended.tallies),
         lost,
     };
     outcome(mended.tallies.none)

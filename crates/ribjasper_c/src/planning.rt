@@ -9,7 +9,7 @@ ghost use Rattle.tile_author.specs.Plan.{weight};
 
 use crate::answers::{DONE, LATE, NO_MEMORY, NOT_DONE, REFUSED, USAGE, WRITE_FAULT};
 use cdg_instructions::{PIXELS, Tile};
-use disc_plan::{PlanStop, PlannedRow, ToldPlan, plan_disc, told_plan, told_stop};
+use disc_plan::{PlanReport, PlanStop, PlannedRow, plan_disc, plan_report, stop_report};
 use disc_time::{MOST_LEAD_IN, MOST_PROGRAM};
 use std::alloc::Global;
 use subcode_author::Heap;
@@ -26,9 +26,9 @@ pub extern "C" fn ribjasper_plan(
     lead_in: u32,
     audio: u32,
     rows: &mut [PlannedRow],
-    told: &mut ToldPlan,
+    report: &mut PlanReport,
 ) -> i32
-    ensures { Plans sheet.now script.now lead_in audio rows.old rows.new told.old told.new result }
+    ensures { Plans sheet.now script.now lead_in audio rows.old rows.new report.old report.new result }
 {
     plan_in(
         &mut Heap::new(alloc),
@@ -37,7 +37,7 @@ pub extern "C" fn ribjasper_plan(
         lead_in,
         audio,
         rows,
-        told,
+        report,
     )
 }
 
@@ -49,11 +49,11 @@ fn plan_in(
     lead_in: u32,
     audio: u32,
     rows: &mut [PlannedRow],
-    told: &mut ToldPlan,
+    report: &mut PlanReport,
 ) -> i32
-    ensures plans { Plans sheet.now script.now lead_in audio rows.old rows.new told.old told.new result }
+    ensures plans { Plans sheet.now script.now lead_in audio rows.old rows.new report.old report.new result }
     // The answer is 7 only if a request for memory failed.
-    ensures wants { result ≡ pos 7 → Rose heap.old heap.new }
+    ensures allocations { result ≡ pos 7 → Rose heap.old heap.new }
     // If there is a plan, no request failed.
     ensures found { (result ≡ pos 0) ⊎ (result ≡ pos 4) → heap.new ≡ heap.old }
 {
@@ -62,12 +62,12 @@ fn plan_in(
     }
     match plan_disc(heap, sheet, script, lead_in, audio, rows) {
         Ok(disc) => {
-            *told = told_plan(&disc);
+            *report = plan_report(&disc);
             if disc.late == 0 { DONE } else { LATE }
         }
         Err(PlanStop::NoMemory) => NO_MEMORY,
         Err(stop) => {
-            *told = told_stop(&stop);
+            *report = stop_report(&stop);
             stop_answer(&stop)
         }
     }

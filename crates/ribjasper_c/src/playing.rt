@@ -115,7 +115,7 @@ pub extern "C" fn ribjasper_player_open(alloc: Global, player: &mut Playing) -> 
 fn open_in(heap: &mut Heap, player: &mut Playing) -> i32
     ensures opens { OpensPlayer player.old.is_open player.new.is_open player.new.handle.players result }
     // The answer is -1 exactly if a request for memory failed.
-    ensures wants { result ≡ negsuc 0 → Rose heap.old heap.new }
+    ensures allocations { result ≡ negsuc 0 → Rose heap.old heap.new }
     ensures found { result ≡ pos 0 → heap.new ≡ heap.old }
 {
     if player.is_open {

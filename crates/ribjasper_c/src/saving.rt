@@ -33,7 +33,7 @@ pub extern "C" fn ribjasper_player_save(
 fn save_in(heap: &mut Heap, player: &mut Playing, file: &mut [u8; FILE_BYTES]) -> i32
     ensures saves { SavesPlayer player.old player.new file.old file.new result }
     // The answer is 7 exactly if a request for memory failed.
-    ensures wants { result ≡ pos 7 → Rose heap.old heap.new }
+    ensures allocations { result ≡ pos 7 → Rose heap.old heap.new }
     ensures found { result ≢ pos 7 → heap.new ≡ heap.old }
 {
     if !player.is_open {
@@ -46,7 +46,7 @@ fn save_in(heap: &mut Heap, player: &mut Playing, file: &mut [u8; FILE_BYTES]) -
 fn save(heap: &mut Heap, live: &LivePlayer, file: &mut [u8; FILE_BYTES]) -> i32
     ensures saves { SavesLive live.now file.old file.new result }
     // The answer is 7 exactly if a request for memory failed.
-    ensures wants { result ≡ pos 7 → Rose heap.old heap.new }
+    ensures allocations { result ≡ pos 7 → Rose heap.old heap.new }
     ensures found { result ≢ pos 7 → heap.new ≡ heap.old }
 {
     if !live.fits_checkpoint() {
@@ -80,7 +80,7 @@ pub extern "C" fn ribjasper_player_load(
 fn load_in(heap: &mut Heap, player: &mut Playing, file: &[u8; FILE_BYTES], byte: &mut u32) -> i32
     ensures loads { LoadsPlayer file.now player.old player.new byte.old byte.new result }
     // The answer is 7 exactly if a request for memory failed.
-    ensures wants { result ≡ pos 7 → Rose heap.old heap.new }
+    ensures allocations { result ≡ pos 7 → Rose heap.old heap.new }
     ensures found { result ≢ pos 7 → heap.new ≡ heap.old }
 {
     if !player.is_open {
@@ -93,7 +93,7 @@ fn load_in(heap: &mut Heap, player: &mut Playing, file: &[u8; FILE_BYTES], byte:
 fn load(heap: &mut Heap, live: &mut LivePlayer, file: &[u8; FILE_BYTES], byte: &mut u32) -> i32
     ensures loads { LoadsLive file.now live.old live.new byte.old byte.new result }
     // The answer is 7 exactly if a request for memory failed.
-    ensures wants { result ≡ pos 7 → Rose heap.old heap.new }
+    ensures allocations { result ≡ pos 7 → Rose heap.old heap.new }
     ensures found { result ≢ pos 7 → heap.new ≡ heap.old }
 {
     if let Err(bad) = judge(file) {

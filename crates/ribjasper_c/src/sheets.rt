@@ -5,7 +5,9 @@ ghost use Rattle.ribjasper_c.specs.Sheets.{text_kind, WritesRowsOfSheet, WritesT
 
 use crate::answers::{DONE, NO_MEMORY, REFUSED, USAGE, WRITE_FAULT};
 use cue_sheet::CueText;
-use disc_plan::{SheetRow, SheetStop, TextStop, ToldSheet, sheet_rows, sheet_text, told_refusal};
+use disc_plan::{
+    SheetReport, SheetRow, SheetStop, TextStop, refusal_report, sheet_rows, sheet_text,
+};
 use std::alloc::Global;
 use subcode_author::Heap;
 
@@ -16,32 +18,32 @@ pub extern "C" fn ribjasper_sheet(
     alloc: Global,
     sheet: &[u8],
     rows: &mut [SheetRow],
-    told: &mut ToldSheet,
+    report: &mut SheetReport,
 ) -> i32
-    ensures { WritesRowsOfSheet sheet.now rows.old rows.new told.old told.new result }
+    ensures { WritesRowsOfSheet sheet.now rows.old rows.new report.old report.new result }
 {
-    sheet_in(&mut Heap::new(alloc), sheet, rows, told)
+    sheet_in(&mut Heap::new(alloc), sheet, rows, report)
 }
 
 // Does the work of `ribjasper_sheet`. The heap counts failed requests for memory.
-fn sheet_in(heap: &mut Heap, sheet: &[u8], rows: &mut [SheetRow], told: &mut ToldSheet) -> i32
-    ensures writes { WritesRowsOfSheet sheet.now rows.old rows.new told.old told.new result }
+fn sheet_in(heap: &mut Heap, sheet: &[u8], rows: &mut [SheetRow], report: &mut SheetReport) -> i32
+    ensures writes { WritesRowsOfSheet sheet.now rows.old rows.new report.old report.new result }
     // The answer is 7 exactly if a request for memory failed.
-    ensures wants { result ≡ pos 7 → Rose heap.old heap.new }
+    ensures allocations { result ≡ pos 7 → Rose heap.old heap.new }
     ensures found { result ≢ pos 7 → heap.new ≡ heap.old }
 {
     match sheet_rows(heap, sheet, rows) {
         Ok(said) => {
-            *told = said;
+            *report = said;
             DONE
         }
         Err(SheetStop::TooLong) => USAGE,
         Err(SheetStop::Fault { line, why }) => {
-            *told = told_refusal(line, why);
+            *report = refusal_report(line, why);
             REFUSED
         }
-        Err(SheetStop::NoRoom { told: said }) => {
-            *told = said;
+        Err(SheetStop::NoRoom { report: said }) => {
+            *report = said;
             WRITE_FAULT
         }
         Err(SheetStop::NoMemory) => NO_MEMORY,
@@ -74,7 +76,7 @@ fn text_in(
 ) -> i32
     ensures writes { WritesTextOfSheet sheet.now kind place out.old out.new bytes.old bytes.new result }
     // The answer is 7 exactly if a request for memory failed.
-    ensures wants { result ≡ pos 7 → Rose heap.old heap.new }
+    ensures allocations { result ≡ pos 7 → Rose heap.old heap.new }
     ensures found { result ≢ pos 7 → heap.new ≡ heap.old }
 {
     if kind > 2 {

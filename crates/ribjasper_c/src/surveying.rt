@@ -2,7 +2,7 @@
 ghost use Rattle.std.specs.Prelude.{◌≡◌, ◌≢◌, ◌++◌, drop, length, pos};
 ghost use Rattle.block_survey.specs.Rows.{survey_rows};
 ghost use Rattle.ribjasper_c.specs.Conversions.{stream_form};
-ghost use Rattle.ribjasper_c.specs.Surveys.{survey_answer, survey_told, whole_blocks};
+ghost use Rattle.ribjasper_c.specs.Surveys.{survey_answer, survey_counts, whole_blocks};
 
 use crate::answers::{DONE, REFUSED, USAGE, WRITE_FAULT};
 use crate::converting::stream_form;
@@ -28,14 +28,14 @@ pub extern "C" fn ribjasper_survey(
     form: u32,
     lead_in: u32,
     rows: &mut [BlockRow],
-    told: &mut Surveyed,
+    counts: &mut Surveyed,
 ) -> i32
     ensures answer { result
         ≡ survey_answer form lead_in (whole_blocks (stream_form form) stream.now) (length rows.old) }
     ensures rows { result ≡ pos 0 → rows.new ≡ survey_rows (stream_form form) lead_in stream.now
         ++ drop (whole_blocks (stream_form form) stream.now) rows.old }
-    ensures told { result ≡ pos 0 → told.new ≡ survey_told (stream_form form) stream.now }
-    ensures untouched { result ≢ pos 0 → (rows.new ≡ rows.old) × (told.new ≡ told.old) }
+    ensures counts { result ≡ pos 0 → counts.new ≡ survey_counts (stream_form form) stream.now }
+    ensures untouched { result ≢ pos 0 → (rows.new ≡ rows.old) × (counts.new ≡ counts.old) }
 {
     if form > 2 || lead_in > MOST_LEAD_IN {
         return USAGE;
@@ -50,7 +50,7 @@ pub extern "C" fn ribjasper_survey(
         return WRITE_FAULT;
     }
     survey(form, lead_in, stream, rows);
-    *told = Surveyed {
+    *counts = Surveyed {
         blocks: blocks as u32,
         rest: (stream.len() % size) as u32,
     };

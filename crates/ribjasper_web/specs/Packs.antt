@@ -16,7 +16,7 @@ absent_pack = record { symbols = []; wrong = pos 0 }
 
 -- The packs are these words in this order, each corrected as in `IsTakenAs`. The packs after them are unchanged.
 pub record AreTakenAs (words : List (List ℕ)) (old new : List WebPack) : Type 0 where
-  pub told : (i : ℕ) → i < length words
+  pub reported : (i : ℕ) → i < length words
       → IsTakenAs (slice_index_or words i []) (slice_index_or new i absent_pack).symbols
       (slice_index_or new i absent_pack).wrong
   pub rest : drop (length words) new ≡ drop (length words) old

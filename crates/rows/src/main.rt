@@ -84,7 +84,7 @@ fn main(rt: HostRuntime) -> ExitCode {
         Ok(false) => ExitCode::FAILURE,
         Err(error) => {
             // If this line cannot be printed, the exit status still reports the failure.
-            let _told = eprintln!(rt; "{error:#}");
+            let _reported = eprintln!(rt; "{error:#}");
             ExitCode::FAILURE
         }
     }

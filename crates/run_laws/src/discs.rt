@@ -47,7 +47,7 @@ pub fn accepted_discs_are_written()
 }
 
 /// A law: each refusal of `author` is the status if its reason is the first that applies.
-pub fn refusals_are_told()
+pub fn refusals_are_reported()
     // These are the refusals of the cue sheet.
     ensures sheet { (lead_in audio : ℕ) (why : Refusal) (call : Call Bytes) (status : Status)
         → IsRun (Author lead_in audio) call status

@@ -12,5 +12,5 @@ pub use conversions::{
 };
 pub use discs::{
     accepted_discs_are_written, authored_texts_are_written, copied_texts_are_written,
-    refusals_are_told, second_faults_come_after_the_first_input,
+    refusals_are_reported, second_faults_come_after_the_first_input,
 };

@@ -24,17 +24,20 @@ by_test true f g = f refl
 by_test false f g = g refl
 
 le_of : (a b : ℕ) → nat_le a b ≡ true → a ≤ b
-le_of a b e = elim (leb_tells a b) [ inl tells ↦ tells.1 | inr tells ↦ absurd (cc) ]
+le_of a b e = elim (leb_tells a b) [ inl decides ↦ decides.1 | inr decides ↦ absurd (cc) ]
 
 lt_of : (a b : ℕ) → nat_lt a b ≡ true → a < b
-lt_of a b e = elim (leb_tells (suc a) b) [ inl tells ↦ omega (arith, tells.1) | inr tells ↦ absurd (cc) ]
+lt_of a b e =
+    elim (leb_tells (suc a) b) [ inl decides ↦ omega (arith, decides.1) | inr decides ↦ absurd (cc) ]
 
 is_le : (a b : ℕ) → a ≤ b → nat_le a b ≡ true
-is_le a b le = elim (leb_tells a b) [ inl tells ↦ tells.0 | inr tells ↦ absurd (omega (arith, le, tells.1)) ]
+is_le a b le =
+    elim (leb_tells a b) [ inl decides ↦ decides.0 | inr decides ↦ absurd (omega (arith, le, decides.1)) ]
 
 is_lt : (a b : ℕ) → a < b → nat_lt a b ≡ true
 is_lt a b lt =
-    elim (leb_tells (suc a) b) [ inl tells ↦ tells.0 | inr tells ↦ absurd (omega (arith, lt, tells.1)) ]
+    elim (leb_tells (suc a) b)
+    [ inl decides ↦ decides.0 | inr decides ↦ absurd (omega (arith, lt, decides.1)) ]
 
 both : (a b : Bool) → a ≡ true → b ≡ true → (a && b) ≡ true
 both a b left right = ap₂ (λ x y. x && y) left right

@@ -15,7 +15,7 @@ use Rattle.rw_mend.specs.declared.choice.WordSource.{WordSource}
 use Rattle.rw_mend.specs.declared.choice.WordSource.TheVariants.{Reading, Agreed}
 use Rattle.rw_mend.specs.declared.candidates.Candidate.{Candidate}
 use Rattle.rw_mend.specs.declared.candidates.Candidate.TheVariants.{Silent, Lost, Near}
-use Rattle.rw_mend.proofs.Missing.{told}
+use Rattle.rw_mend.proofs.Missing.{reported}
 use Rattle.rw_mend.proofs.Same.{same_is}
 
 -- ---- Tests.
@@ -62,7 +62,7 @@ least p (suc n) =
     elim (least p n) [
       | inl found ↦ inl (found.0, omega (arith, found.1), found.2, found.3)
       | inr none ↦
-          elim (told (p n)) [
+          elim (reported (p n)) [
             | inl here ↦ inl (n, omega arith, here, none)
             | inr fails ↦ inr (λ j lt.
                 elim (cases_eq j n) [
@@ -100,23 +100,23 @@ clean_is_best candidates codeword only =
 
 -- the best candidate is a codeword
 pub best_is_near : (candidates : List Candidate) (candidate : Candidate) → is_best candidates candidate ≡ true
-    → (pack : List ℕ) × (doubts : ℕ) × (candidate ≡ Near pack doubts)
+    → (pack : List ℕ) × (distance : ℕ) × (candidate ≡ Near pack distance)
 best_is_near candidates Silent is = absurd (false≢true is)
 best_is_near candidates (Lost word) is = absurd (false≢true is)
-best_is_near candidates (Near pack doubts) is = (pack, doubts, refl)
+best_is_near candidates (Near pack distance) is = (pack, distance, refl)
 
 -- and if one of the candidates is error-free, so is the best
-best_is_clean : (candidates : List Candidate) (pack : List ℕ) (doubts r : ℕ) (codeword : List ℕ)
-    → is_best candidates (Near pack doubts) ≡ true → r < length candidates
-    → candidate_of_reading candidates r ≡ Near codeword 0 → doubts ≡ 0
-best_is_clean candidates pack doubts r codeword best within is =
-    let stands_here : stands candidates pack doubts (candidate_of_reading candidates r) ≡ true =
-    AllPass-from_list_all (stands candidates pack doubts) candidates best r Silent within in
-    let beside : stands candidates pack doubts (Near codeword 0) ≡ true =
-    ap (stands candidates pack doubts) (sym is) ∙ stands_here in
-    same_test doubts 0
-    (first_of_both (doubts == 0) _
-    (second_of (nat_lt doubts 0) _ beside (not_less doubts 0 (omega arith))))
+best_is_clean : (candidates : List Candidate) (pack : List ℕ) (distance r : ℕ) (codeword : List ℕ)
+    → is_best candidates (Near pack distance) ≡ true → r < length candidates
+    → candidate_of_reading candidates r ≡ Near codeword 0 → distance ≡ 0
+best_is_clean candidates pack distance r codeword best within is =
+    let stands_here : stands candidates pack distance (candidate_of_reading candidates r) ≡ true =
+    AllPass-from_list_all (stands candidates pack distance) candidates best r Silent within in
+    let beside : stands candidates pack distance (Near codeword 0) ≡ true =
+    ap (stands candidates pack distance) (sym is) ∙ stands_here in
+    same_test distance 0
+    (first_of_both (distance == 0) _
+    (second_of (nat_lt distance 0) _ beside (not_less distance 0 (omega arith))))
 
 pub has_first : (candidates : List Candidate) (r : ℕ) → r < length candidates
     → is_best candidates (candidate_of_reading candidates r) ≡ true → (k : ℕ) × IsFirstBest candidates k
@@ -126,14 +126,14 @@ has_first candidates r within best =
       | inr none ↦ absurd (false≢true (sym (none r within) ∙ best))
     ]
 
-pub is_of_near : (candidate : Candidate) (pack : List ℕ) (doubts : ℕ) → candidate ≡ Near pack doubts
+pub is_of_near : (candidate : Candidate) (pack : List ℕ) (distance : ℕ) → candidate ≡ Near pack distance
     → IsOf pack candidate
-is_of_near candidate pack doubts is = subst (IsOf pack) (sym is) refl
+is_of_near candidate pack distance is = subst (IsOf pack) (sym is) refl
 
-pub pack_of : (candidate : Candidate) (pack codeword : List ℕ) (doubts : ℕ) → candidate ≡ Near pack doubts
+pub pack_of : (candidate : Candidate) (pack codeword : List ℕ) (distance : ℕ) → candidate ≡ Near pack distance
     → IsOf codeword candidate
     → pack ≡ codeword
-pack_of candidate pack codeword doubts is of = subst (IsOf codeword) is of
+pack_of candidate pack codeword distance is of = subst (IsOf codeword) is of
 
 mended_is : (candidates : List Candidate) (r : ℕ) (codeword : List ℕ) (source : WordSource) (found : List ℕ)
     → r < length candidates

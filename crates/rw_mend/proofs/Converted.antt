@@ -38,7 +38,7 @@ use Rattle.rw_mend.proofs.Clean.{pack_of}
 use Rattle.rw_mend.proofs.Damaged.{IsOrIdle, near_given, unread_or_not, written}
 use Rattle.rw_mend.proofs.Givens.{is_word, reading-word}
 use Rattle.rw_mend.proofs.Heaps.{part_whole, parts_length}
-use Rattle.rw_mend.proofs.Hearing.{lost_is, silent_is}
+use Rattle.rw_mend.proofs.Decoding.{lost_is, silent_is}
 use Rattle.rw_mend.proofs.Kept.{clean_text, each_text, flat_joined, graphics_are, graphics_are_sure, said_kept}
 use Rattle.rw_mend.proofs.Once.{best_counts}
 
@@ -46,7 +46,7 @@ use Rattle.rw_mend.proofs.Once.{best_counts}
 
 bytes_given : (candidate : Candidate) (codeword : List ℕ) → IsOrIdle candidate codeword
     → candidate_bytes candidate ≡ codeword
-bytes_given candidate codeword (inl (doubts, is)) = ap candidate_bytes is
+bytes_given candidate codeword (inl (distance, is)) = ap candidate_bytes is
 bytes_given candidate codeword (inr (silent, idle)) = ap candidate_bytes silent ∙ sym idle
 
 -- the packs that are written for a word of one reading
@@ -98,7 +98,7 @@ near_bytes : (candidate : Candidate) → is_idle_candidate candidate ≡ true
     → is_idle_pack (candidate_bytes candidate) ≡ true
 near_bytes Silent is = absurd (false≢true is)
 near_bytes (Lost word) is = absurd (false≢true is)
-near_bytes (Near pack doubts) is = is
+near_bytes (Near pack distance) is = is
 
 never_dropped : (words : ℕ) (programs : List (List ℕ)) (r n : ℕ) → CountsAlone words programs r → n < words
     → ¬ IsDropped words programs r n
@@ -127,15 +127,16 @@ never_dropped words programs r n is here (inr doubted) = is.sure n here doubted
 -- every codeword that is a candidate comes from the reading
 said_alone : (words : ℕ) (programs : List (List ℕ)) (r n s : ℕ) (candidates : List Candidate)
     (codeword : List ℕ)
-    (doubts : ℕ) → CountsAlone words programs r → n < words → AreCandidates words programs n candidates
-    → s < length programs → candidate_of_reading candidates s ≡ Near codeword doubts
+    (distance : ℕ) → CountsAlone words programs r → n < words → AreCandidates words programs n candidates
+    → s < length programs → candidate_of_reading candidates s ≡ Near codeword distance
     → codeword ≡ candidate_bytes (given_at programs r n)
-said_alone words programs r n s candidates codeword doubts is lt are within near =
+said_alone words programs r n s candidates codeword distance is lt are within near =
     let given =
-    counted words programs n s (candidate_of_reading candidates s) codeword doubts (are.each s within) near in
+    counted words programs n s (candidate_of_reading candidates s) codeword distance (are.each s within)
+    near in
     elim (cases_eq s r) [
       | inl own ↦ ap candidate_bytes (sym given.1) ∙ ap (λ k. candidate_bytes (given_at programs k n)) own
-      | inr other ↦ is.others n s codeword doubts lt within other given.0 given.1
+      | inr other ↦ is.others n s codeword distance lt within other given.0 given.1
     ]
 
 found_alone : (candidates : List Candidate) (codeword : List ℕ) (mended : Mended) (source : WordSource)
@@ -158,8 +159,8 @@ found_beside : (candidates : List Candidate) (own : Candidate) (r : ℕ) (found 
     → candidate_of_reading candidates s ≡ Near other more
     → other ≡ candidate_bytes own)
     → ¬ IsAgreedWord found → IsMending candidates found → mended_bytes found ≡ candidate_bytes own
-found_beside candidates (Near pack doubts) r found within is only apart mending =
-    mended_alone candidates pack r doubts found within is only mending
+found_beside candidates (Near pack distance) r found within is only apart mending =
+    mended_alone candidates pack r distance found within is only mending
 found_beside candidates Silent r None within is only apart none = refl
 found_beside candidates (Lost word) r None within is only apart none = refl
 found_beside candidates Silent r (Some mended) within is only apart by =

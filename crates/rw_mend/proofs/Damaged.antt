@@ -19,7 +19,7 @@ use Rattle.rw_mend.specs.Drops.{IsDropped}
 use Rattle.rw_mend.specs.Laws.{AreDamagedReadings}
 use Rattle.rw_mend.specs.Many.{AreAllMendedInto, words_in_each}
 use Rattle.rw_mend.specs.Streams.{AreMended, IsMendedInto, mended_bytes, mended_text}
-use Rattle.rw_mend.specs.Candidates.{doubts_of, is_idle_pack, is_idle_candidate, is_quiet_candidate, candidate_of}
+use Rattle.rw_mend.specs.Candidates.{distance_of, is_idle_pack, is_idle_candidate, is_quiet_candidate, candidate_of}
 use Rattle.rw_mend.specs.Words.{given_at, program_of, reading_at}
 use Rattle.rw_mend.specs.declared.streams.MendCounts.{MendCounts}
 use Rattle.rw_mend.specs.declared.tallies.Tallies.{Tallies}
@@ -35,14 +35,14 @@ use Rattle.rw_mend.proofs.Alone.{mended_alone, one_near}
 use Rattle.rw_mend.proofs.Clean.{pack_of}
 use Rattle.rw_mend.proofs.Givens.{is_word, reading-word}
 use Rattle.rw_mend.proofs.Heaps.{part_whole, parts_length}
-use Rattle.rw_mend.proofs.Hearing.{near_is, silent_is}
+use Rattle.rw_mend.proofs.Decoding.{near_is, silent_is}
 use Rattle.rw_mend.proofs.Kept.{doubtful_are, flat_joined, graphics_are, idle_is, said_kept}
 use Rattle.rw_mend.proofs.Once.{best_counts}
 use Rattle.rw_mend.proofs.Unread.{idle_where_unread}
 
 -- The candidate is this codeword; or it is `Silent`, and the codeword is the idle pack.
 abbrev pub IsOrIdle : Candidate → List ℕ → Type 0
-IsOrIdle candidate codeword = ((doubts : ℕ) × (candidate ≡ Near codeword doubts))
+IsOrIdle candidate codeword = ((distance : ℕ) × (candidate ≡ Near codeword distance))
     ⊎ ((candidate ≡ Silent) × (codeword ≡ replicate 24 0))
 
 pub unread_or_not : (coverage : Coverage) → (coverage ≡ Unread) ⊎ (coverage ≢ Unread)
@@ -62,21 +62,21 @@ near_given program n codeword reads =
       | inl unread ↦
           inr (sym (silent_is reading unread), idle_where_unread program n codeword there unread)
       | inr read ↦
-          let doubts : ℕ = doubts_of reading.coverage reading.word codeword in
-          inl (doubts, sym (near_is reading codeword doubts read (is_word program n) there refl))
+          let distance : ℕ = distance_of reading.coverage reading.word codeword in
+          inl (distance, sym (near_is reading codeword distance read (is_word program n) there refl))
     ]
 
 -- ---- The candidates of a word.
 
 other_codeword : (candidate : Candidate) (codeword other : List ℕ) (more : ℕ) → IsOrIdle candidate codeword
     → candidate ≡ Near other more → other ≡ codeword
-other_codeword candidate codeword other more (inl (doubts, is)) near =
-    one_near other codeword more doubts (sym near ∙ is)
+other_codeword candidate codeword other more (inl (distance, is)) near =
+    one_near other codeword more distance (sym near ∙ is)
 other_codeword candidate codeword other more (inr (silent, idle)) near = cc
 
 not_lost : (one other : Candidate) (codeword another : List ℕ) → IsOrIdle one codeword
     → ¬ AreAgreed one other another
-not_lost one other codeword another (inl (doubts, is)) agreed =
+not_lost one other codeword another (inl (distance, is)) agreed =
     subst (λ v. AreAgreed v other another) is agreed
 not_lost one other codeword another (inr (silent, idle)) agreed =
     subst (λ v. AreAgreed v other another) silent agreed
@@ -99,8 +99,8 @@ mended_same : (candidates : List Candidate) (codeword : List ℕ) (found : Optio
     → 0 < length candidates → IsOrIdle (candidate_of_reading candidates 0) codeword
     → ((r : ℕ) → r < length candidates → IsOrIdle (candidate_of_reading candidates r) codeword)
     → IsMending candidates found → mended_bytes found ≡ codeword
-mended_same candidates codeword found some (inl (doubts, is)) each mended =
-    mended_alone candidates codeword 0 doubts found some is
+mended_same candidates codeword found some (inl (distance, is)) each mended =
+    mended_alone candidates codeword 0 distance found some is
     (λ s other more lt near.
     other_codeword (candidate_of_reading candidates s) codeword other more (each s lt) near)
     mended
@@ -118,14 +118,14 @@ EachGives words programs packs = (n r : ℕ) → n < words → r < length progra
 idle_pack_of : (candidate : Candidate) (codeword : List ℕ) → IsOrIdle candidate codeword
     → is_idle_candidate candidate ≡ true
     → is_idle_pack codeword ≡ true
-idle_pack_of candidate codeword (inl (doubts, is)) idle = ap is_idle_candidate (sym is) ∙ idle
+idle_pack_of candidate codeword (inl (distance, is)) idle = ap is_idle_candidate (sym is) ∙ idle
 idle_pack_of candidate codeword (inr (silent, zeros)) idle =
     absurd (false≢true (ap is_idle_candidate (sym silent) ∙ idle))
 
 quiet_pack_of : (candidate : Candidate) (codeword : List ℕ) → IsOrIdle candidate codeword
     → is_quiet_candidate candidate ≡ true
     → is_idle_pack codeword ≡ true
-quiet_pack_of candidate codeword (inl (doubts, is)) quiet = ap is_quiet_candidate (sym is) ∙ quiet
+quiet_pack_of candidate codeword (inl (distance, is)) quiet = ap is_quiet_candidate (sym is) ∙ quiet
 quiet_pack_of candidate codeword (inr (silent, zeros)) quiet = ap is_idle_pack zeros ∙ idle_is
 
 none_dropped : (words : ℕ) (programs packs : List (List ℕ)) (r n : ℕ) → EachGives words programs packs

@@ -124,13 +124,13 @@ source_turned a b (Reading r) (Reading k) pack pack' equal by same =
     let vs : List Candidate = a ∷ b ∷ [] in
     let ws : List Candidate = b ∷ a ∷ [] in
     let own : same.pack ≡ pack =
-    pack_of (candidate_of_reading vs r) same.pack pack same.doubts same.one by.1 in
+    pack_of (candidate_of_reading vs r) same.pack pack same.distance same.one by.1 in
     let count : votes ws pack' ≡ votes vs pack =
     sym (votes_same vs ws pack (exchange a b) ∙ ap (votes ws) equal) in
     ap (λ (n : ℕ). way_if (n == 2) k) count
     ∙ if_turned (votes vs pack == 2) r k (λ not.
-    other_of a b r k pack same.doubts same.within same.within'
-    (same.one ∙ ap (λ p. Near p same.doubts) own) (same.other ∙ ap (λ p. Near p same.doubts) own) not)
+    other_of a b r k pack same.distance same.within same.within'
+    (same.one ∙ ap (λ p. Near p same.distance) own) (same.other ∙ ap (λ p. Near p same.distance) own) not)
 source_turned a b (Reading r) Agreed pack pack' equal by same = absurd same
 source_turned a b Agreed (Reading k) pack pack' equal by same = absurd same
 source_turned a b Agreed Agreed pack pack' equal by same = refl

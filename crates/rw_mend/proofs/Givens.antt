@@ -29,29 +29,29 @@ is_word program n =
     subst IsWord (sym (reading-word program n))
     (form_words Raw (symbols_of program) n (small_symbols program))
 
-found_codeword : (reading : WordReading) (found : Option (List ℕ)) (pack : List ℕ) (doubts : ℕ)
-    → IsFinding reading.word found → candidate_found reading found ≡ Near pack doubts → IsCodeword pack
-found_codeword reading (Some codeword) pack doubts is same =
+found_codeword : (reading : WordReading) (found : Option (List ℕ)) (pack : List ℕ) (distance : ℕ)
+    → IsFinding reading.word found → candidate_found reading found ≡ Near pack distance → IsCodeword pack
+found_codeword reading (Some codeword) pack distance is same =
     let equal : codeword ≡ pack = cc in
     subst IsCodeword equal is.is_codeword
-found_codeword reading None pack doubts is same = cc
+found_codeword reading None pack distance is same = cc
 
-covered_codeword : (coverage : Coverage) (reading : WordReading) (pack : List ℕ) (doubts : ℕ)
-    → IsWord reading.word → candidate_covered coverage reading ≡ Near pack doubts → IsCodeword pack
-covered_codeword Unread reading pack doubts word same = cc
-covered_codeword Whole reading pack doubts word same =
-    found_codeword reading (finding reading.word) pack doubts (finding_is reading.word word) same
-covered_codeword Partly reading pack doubts word same =
-    found_codeword reading (finding reading.word) pack doubts (finding_is reading.word word) same
+covered_codeword : (coverage : Coverage) (reading : WordReading) (pack : List ℕ) (distance : ℕ)
+    → IsWord reading.word → candidate_covered coverage reading ≡ Near pack distance → IsCodeword pack
+covered_codeword Unread reading pack distance word same = cc
+covered_codeword Whole reading pack distance word same =
+    found_codeword reading (finding reading.word) pack distance (finding_is reading.word word) same
+covered_codeword Partly reading pack distance word same =
+    found_codeword reading (finding reading.word) pack distance (finding_is reading.word word) same
 
-candidate_codeword : (reading : WordReading) (pack : List ℕ) (doubts : ℕ) → IsWord reading.word
-    → candidate_of reading ≡ Near pack doubts → IsCodeword pack
+candidate_codeword : (reading : WordReading) (pack : List ℕ) (distance : ℕ) → IsWord reading.word
+    → candidate_of reading ≡ Near pack distance → IsCodeword pack
 unfolding candidate_of
-candidate_codeword reading pack doubts word same =
-    covered_codeword reading.coverage reading pack doubts word same
+candidate_codeword reading pack distance word same =
+    covered_codeword reading.coverage reading pack distance word same
 
-pub given_codeword : (programs : List (List ℕ)) (r n : ℕ) (pack : List ℕ) (doubts : ℕ)
-    → given_at programs r n ≡ Near pack doubts → IsCodeword pack
-given_codeword programs r n pack doubts same =
-    candidate_codeword (reading_at (get_or programs r []) n) pack doubts (is_word (get_or programs r []) n)
+pub given_codeword : (programs : List (List ℕ)) (r n : ℕ) (pack : List ℕ) (distance : ℕ)
+    → given_at programs r n ≡ Near pack distance → IsCodeword pack
+given_codeword programs r n pack distance same =
+    candidate_codeword (reading_at (get_or programs r []) n) pack distance (is_word (get_or programs r []) n)
     same

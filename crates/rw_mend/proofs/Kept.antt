@@ -21,7 +21,7 @@ use Rattle.rw_mend.specs.declared.candidates.Candidate.{Candidate}
 use Rattle.rw_mend.specs.declared.candidates.Candidate.TheVariants.{Silent, Lost, Near}
 use Rattle.rw_mend.proofs.Clean.{both_hold, clean_wins, first_holds, second_holds}
 use Rattle.rw_mend.proofs.Givens.{given_codeword}
-use Rattle.rw_mend.proofs.Missing.{idle_is_quiet, told}
+use Rattle.rw_mend.proofs.Missing.{idle_is_quiet, reported}
 
 -- ---- Graphics and idle packs.
 
@@ -42,36 +42,36 @@ second_of false b is fails = is
 
 -- a graphics candidate is a codeword that is not idle
 pub graphics_are : (candidate : Candidate) → is_graphics_candidate candidate ≡ true
-    → (pack : List ℕ) × (doubts : ℕ) × (candidate ≡ Near pack doubts) × (is_idle_pack pack ≡ false)
+    → (pack : List ℕ) × (distance : ℕ) × (candidate ≡ Near pack distance) × (is_idle_pack pack ≡ false)
 graphics_are Silent is = absurd (false≢true is)
 graphics_are (Lost word) is = absurd (false≢true is)
-graphics_are (Near pack doubts) is =
-    let tests = both_of (not (is_idle_pack pack)) ((doubts == 0) || is_graphics_pack pack) is in
-    (pack, doubts, refl, not_true (is_idle_pack pack) tests.0)
+graphics_are (Near pack distance) is =
+    let tests = both_of (not (is_idle_pack pack)) ((distance == 0) || is_graphics_pack pack) is in
+    (pack, distance, refl, not_true (is_idle_pack pack) tests.0)
 
 -- and so is a doubtful candidate
 pub doubtful_are : (candidate : Candidate) → is_doubtful_candidate candidate ≡ true
-    → (pack : List ℕ) × (doubts : ℕ) × (candidate ≡ Near pack doubts) × (is_idle_pack pack ≡ false)
+    → (pack : List ℕ) × (distance : ℕ) × (candidate ≡ Near pack distance) × (is_idle_pack pack ≡ false)
 doubtful_are Silent is = absurd (false≢true is)
 doubtful_are (Lost word) is = absurd (false≢true is)
-doubtful_are (Near pack doubts) is =
-    let tests = both_of (not (is_idle_pack pack)) (not (doubts == 0) && not (has_used_mode pack)) is in
-    (pack, doubts, refl, not_true (is_idle_pack pack) tests.0)
+doubtful_are (Near pack distance) is =
+    let tests = both_of (not (is_idle_pack pack)) (not (distance == 0) && not (has_used_mode pack)) is in
+    (pack, distance, refl, not_true (is_idle_pack pack) tests.0)
 
 -- graphics are never doubtful
 pub graphics_are_sure : (candidate : Candidate) → is_graphics_candidate candidate ≡ true
     → ¬ (is_doubtful_candidate candidate ≡ true)
 graphics_are_sure Silent is doubtful = false≢true is
 graphics_are_sure (Lost word) is doubtful = false≢true is
-graphics_are_sure (Near pack doubts) is doubtful =
-    let tests = both_of (not (is_idle_pack pack)) ((doubts == 0) || is_graphics_pack pack) is in
-    let doubts_are =
-    both_of (not (is_idle_pack pack)) (not (doubts == 0) && not (has_used_mode pack)) doubtful in
-    let parts = both_of (not (doubts == 0)) (not (has_used_mode pack)) doubts_are.1 in
-    let some : (doubts == 0) ≡ false = not_true (doubts == 0) parts.0 in
+graphics_are_sure (Near pack distance) is doubtful =
+    let tests = both_of (not (is_idle_pack pack)) ((distance == 0) || is_graphics_pack pack) is in
+    let distance_are =
+    both_of (not (is_idle_pack pack)) (not (distance == 0) && not (has_used_mode pack)) doubtful in
+    let parts = both_of (not (distance == 0)) (not (has_used_mode pack)) distance_are.1 in
+    let some : (distance == 0) ≡ false = not_true (distance == 0) parts.0 in
     let unused : has_used_mode pack ≡ false = not_true (has_used_mode pack) parts.1 in
     let graphics : is_graphics_pack pack ≡ true =
-    second_of (doubts == 0) (is_graphics_pack pack) tests.1 some in
+    second_of (distance == 0) (is_graphics_pack pack) tests.1 some in
     let mode = both_of (get_or pack 0 0 == 9) _ graphics in
     false≢true
     (sym unused ∙ second_holds (get_or pack 0 0 == 8) _ (first_holds (get_or pack 0 0 == 9) _ mode.0))
@@ -151,7 +151,7 @@ only_clean words programs r n s candidate other is lt within said near =
     elim (is.others n s other lt within given.1) [
       | inl same ↦ same
       | inr zeros ↦
-          elim (told (is_idle_pack (is.codeword n))) [
+          elim (reported (is_idle_pack (is.codeword n))) [
             | inl idle ↦
                 zeros
                 ∙ sym

@@ -9,7 +9,7 @@ pub mod Damaged
 pub mod Exchanged
 pub mod Givens
 pub mod Heaps
-pub mod Hearing
+pub mod Decoding
 pub mod Kept
 pub mod Losing
 pub mod Missing
@@ -21,6 +21,6 @@ pub mod Reading
 pub mod Reordered
 pub mod Running
 pub mod Same
-pub mod Telling
+pub mod Reporting
 pub mod Unread
 pub mod Whole

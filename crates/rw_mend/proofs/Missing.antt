@@ -20,9 +20,9 @@ use Rattle.rw_mend.specs.declared.candidates.Candidate.{Candidate}
 use Rattle.rw_mend.specs.declared.candidates.Candidate.TheVariants.{Silent, Lost, Near}
 
 -- a Boolean is true or false
-pub told : (b : Bool) → (b ≡ true) ⊎ (b ≡ false)
-told true = inl refl
-told false = inr refl
+pub reported : (b : Bool) → (b ≡ true) ⊎ (b ≡ false)
+reported true = inl refl
+reported false = inr refl
 
 either_true : (a b : Bool) → (a || b) ≡ true → a ≡ false → b ≡ true
 either_true true b is fails = cc
@@ -33,7 +33,7 @@ pub some_passes : {X : Type 0} (p : X → Bool) (xs : List X) (d : X) → list_a
     → (k : ℕ) × (k < length xs) × (p (get_or xs k d) ≡ true)
 some_passes p [] d is = absurd (false≢true is)
 some_passes p (x ∷ xs) d is =
-    elim (told (p x)) [
+    elim (reported (p x)) [
       | inl passes ↦ (0, omega arith, passes)
       | inr fails ↦
           let later = some_passes p xs d (either_true (p x) (list_any p xs) is fails) in
@@ -85,7 +85,7 @@ pub idle_is_quiet : (candidate : Candidate) → is_idle_candidate candidate ≡ 
     → is_quiet_candidate candidate ≡ true
 idle_is_quiet Silent is = refl
 idle_is_quiet (Lost word) is = is
-idle_is_quiet (Near pack doubts) is = is
+idle_is_quiet (Near pack distance) is = is
 
 lacks_on : (words : ℕ) (programs : List (List ℕ)) (r n : ℕ)
     → is_quiet_candidate (given_at programs r (n + 1)) ≡ true
@@ -220,7 +220,7 @@ idle_lacks words programs r n silence is idle =
     let quiet : is_quiet_candidate (given_at programs r (n + 1 - 1)) ≡ true =
     subst (λ k. is_quiet_candidate (given_at programs r k) ≡ true) (sym same)
     (idle_is_quiet (given_at programs r n) idle) in
-    elim (told silence.quiet) [
+    elim (reported silence.quiet) [
       | inl now ↦
           subst (λ k. MatchBool silence.lacks (Lacks words programs r k) (¬ Lacks words programs r k)) same
           (is.lacks now)
@@ -250,8 +250,8 @@ left_is words programs r n row silence given size rows is given_is =
                 match_true silence.lacks (Lacks words programs r n) parts.0
                 (idle_lacks words programs r n silence is idle);
           })
-      | inr doubts ↦
-          let parts = both_of some (is_doubtful_candidate given) doubts in
+      | inr distance ↦
+          let parts = both_of some (is_doubtful_candidate given) distance in
           let found = some_passes is_quiet_candidate row Silent parts.0 in
           let within : found.0 < length programs = omega (arith, size, found.1) in
           inr (record {

@@ -32,7 +32,7 @@ one_first candidates r k one other =
     ]
 
 pub best_counts : (candidates : List Candidate) (r : ℕ) → IsFirstBest candidates r
-    → (pack : List ℕ) × (doubts : ℕ) × (candidate_of_reading candidates r ≡ Near pack doubts)
+    → (pack : List ℕ) × (distance : ℕ) × (candidate_of_reading candidates r ≡ Near pack distance)
 best_counts candidates r first = best_is_near candidates (candidate_of_reading candidates r) first.best
 
 pub not_agreed : (candidates : List Candidate) (r : ℕ) (codeword : List ℕ) → IsFirstBest candidates r

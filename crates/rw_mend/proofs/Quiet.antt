@@ -15,7 +15,7 @@ use Rattle.rw_code.proofs.Finding.{finding_is}
 use Rattle.rw_interleave.specs.Interleave.{word_of}
 use Rattle.rw_mend.specs.Drops.{HasGraphics, Misses}
 use Rattle.rw_mend.specs.Rows.{IsRow}
-use Rattle.rw_mend.specs.Candidates.{doubts_of, is_graphics_pack, is_graphics_candidate, is_idle_pack, is_idle_candidate, is_quiet_candidate, candidate_covered, candidate_found, candidate_of}
+use Rattle.rw_mend.specs.Candidates.{distance_of, is_graphics_pack, is_graphics_candidate, is_idle_pack, is_idle_candidate, is_quiet_candidate, candidate_covered, candidate_found, candidate_of}
 use Rattle.rw_mend.specs.Words.{given_at, reading_at}
 use Rattle.rw_mend.specs.declared.candidates.Coverage.{Coverage}
 use Rattle.rw_mend.specs.declared.candidates.Coverage.TheVariants.{Whole, Partly, Unread}
@@ -23,7 +23,7 @@ use Rattle.rw_mend.specs.declared.candidates.WordReading.{WordReading}
 use Rattle.rw_mend.specs.declared.candidates.Candidate.{Candidate}
 use Rattle.rw_mend.specs.declared.candidates.Candidate.TheVariants.{Silent, Lost, Near}
 use Rattle.rw_mend.proofs.Givens.{is_word, reading-word}
-use Rattle.rw_mend.proofs.Hearing.{near_is, silent_is}
+use Rattle.rw_mend.proofs.Decoding.{near_is, silent_is}
 use Rattle.rw_mend.proofs.Missing.{some_passes}
 use Rattle.rw_mend.proofs.Unread.{unread_zero}
 
@@ -46,7 +46,7 @@ near_quiet reading word few =
       | inl unread ↦ ap is_quiet_candidate (sym (silent_is reading unread))
       | inr is_read ↦
           ap is_quiet_candidate
-          (sym (near_is reading zeros (doubts_of reading.coverage reading.word zeros) is_read
+          (sym (near_is reading zeros (distance_of reading.coverage reading.word zeros) is_read
           word (idle_near reading.word zeros (differences reading.word zeros) refl refl few).0 refl))
           ∙ idle_is
     ]
@@ -147,28 +147,28 @@ quiet_not_graphics : (candidate : Candidate) → is_quiet_candidate candidate �
     → is_graphics_candidate candidate ≡ false
 quiet_not_graphics Silent is = refl
 quiet_not_graphics (Lost word) is = refl
-quiet_not_graphics (Near pack doubts) is =
-    ap (λ idle. not idle && ((doubts == 0) || is_graphics_pack pack)) is
+quiet_not_graphics (Near pack distance) is =
+    ap (λ idle. not idle && ((distance == 0) || is_graphics_pack pack)) is
 
-near_alike : (idle graphics : Bool) (doubts : ℕ)
-    → (not idle && (((if idle then 3 else doubts) == 0) || graphics))
-    ≡ (not idle && ((doubts == 0) || graphics))
-near_alike true graphics doubts = refl
-near_alike false graphics doubts = refl
+near_alike : (idle graphics : Bool) (distance : ℕ)
+    → (not idle && (((if idle then 3 else distance) == 0) || graphics))
+    ≡ (not idle && ((distance == 0) || graphics))
+near_alike true graphics distance = refl
+near_alike false graphics distance = refl
 
-doubts_alike : (coverage : Coverage) (word codeword : List ℕ)
+distance_alike : (coverage : Coverage) (word codeword : List ℕ)
     → is_graphics_candidate (Near codeword (differences word codeword))
-    ≡ is_graphics_candidate (Near codeword (doubts_of coverage word codeword))
-doubts_alike Whole word codeword = refl
-doubts_alike Unread word codeword = refl
-doubts_alike Partly word codeword =
+    ≡ is_graphics_candidate (Near codeword (distance_of coverage word codeword))
+distance_alike Whole word codeword = refl
+distance_alike Unread word codeword = refl
+distance_alike Partly word codeword =
     sym (near_alike (is_idle_pack codeword) (is_graphics_pack codeword) (differences word codeword))
 
 found_alike : (coverage : Coverage) (word : List ℕ) (found : Option (List ℕ))
     → is_graphics_candidate (candidate_found (record { word = word; coverage = Whole }) found)
     ≡ is_graphics_candidate (candidate_found (record { word = word; coverage = coverage }) found)
 found_alike coverage word None = refl
-found_alike coverage word (Some codeword) = doubts_alike coverage word codeword
+found_alike coverage word (Some codeword) = distance_alike coverage word codeword
 
 covered_alike : (coverage : Coverage) (word : List ℕ) → coverage ≢ Unread
     → is_graphics_candidate (candidate_of (record { word = word; coverage = Whole }))

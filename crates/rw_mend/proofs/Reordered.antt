@@ -36,7 +36,7 @@ use Rattle.rw_mend.proofs.Damaged.{written}
 use Rattle.rw_mend.proofs.Givens.{given_codeword}
 use Rattle.rw_mend.proofs.Heaps.{parts_length}
 use Rattle.rw_mend.proofs.Kept.{flat_joined, second_of}
-use Rattle.rw_mend.proofs.Missing.{either_of, some_passes, told}
+use Rattle.rw_mend.proofs.Missing.{either_of, some_passes, reported}
 use Rattle.rw_mend.proofs.Once.{best_counts, not_agreed}
 
 -- ---- Permutations of lists.
@@ -146,7 +146,7 @@ quiet_true : (program : List ℕ) (n m k : ℕ)
     → (IsBetween n m k → is_quiet_candidate (candidate_of (reading_at program k)) ≡ true)
     → quiet_by program n m k ≡ true
 quiet_true program n m k quiet =
-    elim (told (between_by n m k)) [
+    elim (reported (between_by n m k)) [
       | inl between ↦ second_holds (not (between_by n m k)) _ (quiet (between_is n m k between))
       | inr apart ↦ first_holds (not (between_by n m k)) _ (ap not apart)
     ]
@@ -266,7 +266,7 @@ says_is words programs n r candidate (inl (dropped, silent)) =
     silent
     ∙ sym (ap (λ b. if b then Silent else given_at programs r n) (left_true words programs r n dropped))
 says_is words programs n r candidate (inr (kept, given)) =
-    elim (told (left_out words programs n (get_or programs r []))) [
+    elim (reported (left_out words programs n (get_or programs r []))) [
       | inl left ↦ absurd (kept (left_dropped words programs r n left))
       | inr stays ↦ given ∙ sym (ap (λ b. if b then Silent else given_at programs r n) stays)
     ]
@@ -399,17 +399,17 @@ even vs p q d e codeword codeword' one two =
 
 -- the codewords among some candidates are codewords
 abbrev pub AreCodewords : List Candidate → Type 0
-AreCodewords candidates = (r : ℕ) (pack : List ℕ) (doubts : ℕ) → r < length candidates
-    → candidate_of_reading candidates r ≡ Near pack doubts → IsCodeword pack
+AreCodewords candidates = (r : ℕ) (pack : List ℕ) (distance : ℕ) → r < length candidates
+    → candidate_of_reading candidates r ≡ Near pack distance → IsCodeword pack
 
 -- both candidates are the same codeword, with the same distance
 pub record IsSameCandidate (vs ws : List Candidate) (r k : ℕ) : Type 0 where
   pub pack : List ℕ
-  pub doubts : ℕ
+  pub distance : ℕ
   pub within : r < length vs
   pub within' : k < length ws
-  pub one : candidate_of_reading vs r ≡ Near pack doubts
-  pub other : candidate_of_reading ws k ≡ Near pack doubts
+  pub one : candidate_of_reading vs r ≡ Near pack distance
+  pub other : candidate_of_reading ws k ≡ Near pack distance
 
 same_best : (vs ws : List Candidate) (r k : ℕ) → IsPermutation vs ws → AreCodewords vs → AreCodewords ws
     → IsFirstBest vs r → IsFirstBest ws k → IsSameCandidate vs ws r k
@@ -435,7 +435,7 @@ same_best vs ws r k is codewords codewords' first first' =
     beside beside' in
     record {
       pack = p;
-      doubts = d;
+      distance = d;
       within = first.within;
       within' = first'.within;
       one = one.2;
@@ -498,9 +498,9 @@ are_agreed_other : (one other : Candidate) (codeword : List ℕ) → AreAgreed o
     → AreAgreed other one codeword
 are_agreed_other (Lost first) (Lost second) codeword is = agreed_other first second codeword is
 are_agreed_other Silent other codeword is = absurd is
-are_agreed_other (Near pack doubts) other codeword is = absurd is
+are_agreed_other (Near pack distance) other codeword is = absurd is
 are_agreed_other (Lost first) Silent codeword is = absurd is
-are_agreed_other (Lost first) (Near pack doubts) codeword is = absurd is
+are_agreed_other (Lost first) (Near pack distance) codeword is = absurd is
 
 -- some pair of candidates agrees on a codeword
 pub record HasPair (candidates : List Candidate) (codeword : List ℕ) : Type 0 where
@@ -654,8 +654,8 @@ same_source : (vs ws : List Candidate) (source source' : WordSource) (codeword c
     → IsMendedBy source' ws codeword' → (codeword ≡ codeword') × AreSameCandidates vs ws source source'
 same_source vs ws (Reading r) (Reading k) codeword codeword' is codewords codewords' one other =
     let same = same_best vs ws r k is codewords codewords' one.0 other.0 in (
-      sym (pack_of (candidate_of_reading vs r) same.pack codeword same.doubts same.one one.1)
-          ∙ pack_of (candidate_of_reading ws k) same.pack codeword' same.doubts same.other other.1,
+      sym (pack_of (candidate_of_reading vs r) same.pack codeword same.distance same.one one.1)
+          ∙ pack_of (candidate_of_reading ws k) same.pack codeword' same.distance same.other other.1,
       same,
     )
 same_source vs ws (Reading r) Agreed codeword codeword' is codewords codewords' one other =
@@ -689,18 +689,18 @@ same_word vs ws (Some mended) (Some another) is codewords codewords' one two =
 
 pub said_codewords : (words : ℕ) (programs : List (List ℕ)) (n : ℕ) (candidates : List Candidate)
     → AreCandidates words programs n candidates → AreCodewords candidates
-said_codewords words programs n candidates are r pack doubts lt near =
-    let given = counted words programs n r (candidate_of_reading candidates r) pack doubts
+said_codewords words programs n candidates are r pack distance lt near =
+    let given = counted words programs n r (candidate_of_reading candidates r) pack distance
     (are.each r (omega (arith, lt, are.count))) near in
-    given_codeword programs r n pack doubts given.1
+    given_codeword programs r n pack distance given.1
 
 given_same : (words : ℕ) (programs others : List (List ℕ)) (n : ℕ) (vs ws : List Candidate)
     (source source' : WordSource) → AreCandidates words programs n vs → AreCandidates words others n ws
     → AreSameCandidates vs ws source source' → IsSameSource programs others n source source'
 given_same words programs others n vs ws (Reading r) (Reading k) are are' same =
-    let one = counted words programs n r (candidate_of_reading vs r) same.pack same.doubts
+    let one = counted words programs n r (candidate_of_reading vs r) same.pack same.distance
     (are.each r (omega (arith, same.within, are.count))) same.one in
-    let other = counted words others n k (candidate_of_reading ws k) same.pack same.doubts
+    let other = counted words others n k (candidate_of_reading ws k) same.pack same.distance
     (are'.each k (omega (arith, same.within', are'.count))) same.other in
     one.1 ∙ sym other.1
 given_same words programs others n vs ws (Reading r) Agreed are are' same = absurd same
@@ -870,13 +870,14 @@ drops_reordered words programs others r k count count' is same one other =
 
 pub reordered_many : (count lead_in : ℕ)
     (readings others old new turned old_sources sources sources' : List ℕ)
-    (told told' : Tallies) → count ≤ 254 → length others ≡ length readings
+    (reported reported' : Tallies) → count ≤ 254 → length others ≡ length readings
     → IsPermutation (parts count (length readings / count) readings)
     (parts count (length others / count) others)
-    → AreAllMendedInto count lead_in readings old new old_sources sources told
-    → AreAllMendedInto count lead_in others old turned old_sources sources' told'
-    → (turned ≡ new) × (told'.agreed ≡ told.agreed) × (told'.none ≡ told.none)
-reordered_many count lead_in readings others old new turned old_sources sources sources' told told' few same
+    → AreAllMendedInto count lead_in readings old new old_sources sources reported
+    → AreAllMendedInto count lead_in others old turned old_sources sources' reported'
+    → (turned ≡ new) × (reported'.agreed ≡ reported.agreed) × (reported'.none ≡ reported.none)
+reordered_many count lead_in readings others old new turned old_sources sources sources' reported reported'
+    few same
     is
     done done' =
     let words : ℕ = words_in_each count lead_in readings in

@@ -20,15 +20,15 @@ other_is one other word word' differ =
     ]
 
 -- the comparison of the bytes of two words says that they are equal,
-pub told_same : (one other bytes bytes' : List ℕ) (told : Bool) → bytes ≡ one → bytes' ≡ other
-    → told ≡ pointwise nat_eq bytes bytes' → told ≡ true
+pub reported_same : (one other bytes bytes' : List ℕ) (reported : Bool) → bytes ≡ one → bytes' ≡ other
+    → reported ≡ pointwise nat_eq bytes bytes' → reported ≡ true
     → one ≡ other
-told_same one other bytes bytes' told is is' tells same =
-    sym is ∙ same_text bytes bytes' (sym same ∙ tells) ∙ is'
+reported_same one other bytes bytes' reported is is' decides same =
+    sym is ∙ same_text bytes bytes' (sym same ∙ decides) ∙ is'
 
 -- or that they are not
-pub told_other : (one other bytes bytes' : List ℕ) (told : Bool) → bytes ≡ one → bytes' ≡ other
-    → told ≡ pointwise nat_eq bytes bytes' → told ≡ false
+pub reported_other : (one other bytes bytes' : List ℕ) (reported : Bool) → bytes ≡ one → bytes' ≡ other
+    → reported ≡ pointwise nat_eq bytes bytes' → reported ≡ false
     → one ≢ other
-told_other one other bytes bytes' told is is' tells differs same =
-    other_text bytes bytes' (sym differs ∙ tells) (is ∙ same ∙ sym is')
+reported_other one other bytes bytes' reported is is' decides differs same =
+    other_text bytes bytes' (sym differs ∙ decides) (is ∙ same ∙ sym is')

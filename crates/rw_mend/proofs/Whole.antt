@@ -19,7 +19,7 @@ use Rattle.rw_mend.proofs.Alone.{counted}
 use Rattle.rw_mend.proofs.Clean.{clean_wins, pack_of}
 use Rattle.rw_mend.proofs.Givens.{given_codeword}
 use Rattle.rw_mend.proofs.Kept.{clean_graphics, clean_sure, doubtful_are, each_text, idle_is, lacking_here, said_kept, zeros_are}
-use Rattle.rw_mend.proofs.Missing.{told}
+use Rattle.rw_mend.proofs.Missing.{reported}
 use Rattle.rw_mend.proofs.Once.{best_counts}
 
 -- a quiet candidate is never doubtful
@@ -65,7 +65,7 @@ free_clean words programs r n s candidate other is lt within clean said near =
     elim (is.others n s other lt within given.1) [
       | inl same ↦ same
       | inr zeros ↦
-          elim (told (is_idle_pack (is.codeword n))) [
+          elim (reported (is_idle_pack (is.codeword n))) [
             | inl idle ↦
                 zeros
                 ∙ sym (zeros_are (is.codeword n) (given_codeword programs r n (is.codeword n) 0 clean) idle)
@@ -85,13 +85,13 @@ quiet_bytes : (programs : List (List ℕ)) (r n : ℕ) (candidate : Candidate) �
     → is_quiet_candidate candidate ≡ true → candidate_bytes candidate ≡ idle_pack
 quiet_bytes programs r n Silent same quiet = refl
 quiet_bytes programs r n (Lost word) same quiet = absurd (false≢true quiet)
-quiet_bytes programs r n (Near pack doubts) same quiet =
-    zeros_are pack (given_codeword programs r n pack doubts (sym same)) quiet
+quiet_bytes programs r n (Near pack distance) same quiet =
+    zeros_are pack (given_codeword programs r n pack distance (sym same)) quiet
 
 not_silent : (one : Candidate) (codeword : List ℕ) → ¬ AreAgreed one Silent codeword
 not_silent Silent codeword agreed = agreed
 not_silent (Lost word) codeword agreed = agreed
-not_silent (Near pack doubts) codeword agreed = agreed
+not_silent (Near pack distance) codeword agreed = agreed
 
 -- two candidates that agree are the candidates of their readings
 lost_agreed : (words : ℕ) (programs : List (List ℕ)) (n s t : ℕ) (one other : Candidate) (codeword : List ℕ)
@@ -111,8 +111,8 @@ no_agreement : (words : ℕ) (programs : List (List ℕ)) (r n : ℕ) (candidate
     → is_quiet_candidate own ≡ true → AreCandidates words programs n candidates
     → ¬ IsMendedBy Agreed candidates codeword
 no_agreement words programs r n candidates codeword (Lost word) same is lt quiet are by = false≢true quiet
-no_agreement words programs r n candidates codeword (Near pack doubts) same is lt quiet are by =
-    let here : candidate_of_reading candidates r ≡ Near pack doubts =
+no_agreement words programs r n candidates codeword (Near pack distance) same is lt quiet are by =
+    let here : candidate_of_reading candidates r ≡ Near pack distance =
     said_kept words programs n r (candidate_of_reading candidates r) (are.each r is.within)
     (free_kept words programs r n is lt) ∙ sym same in
     let near : is_near (candidate_of_reading candidates r) ≡ true = ap is_near here in

@@ -22,13 +22,13 @@ is_idle_pack codeword = differences codeword idle_pack == 0
 
 -- The distance of a codeword near a word: the number of symbols in which they differ. The idle pack has the distance 3 if
 -- one of the blocks under the word is unread.
-abbrev pub doubts_of : Coverage → List ℕ → List ℕ → ℕ
-doubts_of Partly word codeword = if is_idle_pack codeword then 3 else differences word codeword
-doubts_of coverage word codeword = differences word codeword
+abbrev pub distance_of : Coverage → List ℕ → List ℕ → ℕ
+distance_of Partly word codeword = if is_idle_pack codeword then 3 else differences word codeword
+distance_of coverage word codeword = differences word codeword
 
 -- the candidate of a word that was read: the codeword that is found for it, or the lost word itself
 abbrev pub candidate_found : WordReading → Option (List ℕ) → Candidate
-candidate_found reading (Some codeword) = Near codeword (doubts_of reading.coverage reading.word codeword)
+candidate_found reading (Some codeword) = Near codeword (distance_of reading.coverage reading.word codeword)
 candidate_found reading None = Lost reading.word
 
 -- the candidate of a word by its coverage: `Silent` if the word was not read
@@ -42,7 +42,7 @@ candidate_of reading = candidate_covered reading.coverage reading
 
 -- whether a candidate is the idle pack
 abbrev pub is_idle_candidate : Candidate → Bool
-is_idle_candidate (Near pack doubts) = is_idle_pack pack
+is_idle_candidate (Near pack distance) = is_idle_pack pack
 is_idle_candidate candidate = false
 
 -- whether a candidate is the idle pack, or nothing was read
@@ -62,7 +62,8 @@ is_graphics_pack codeword = (slice_index_or codeword 0 0 == 9)
 -- Whether a candidate shows that the word is not idle: it is not the idle pack, and it is either a codeword without a
 -- wrong symbol or a graphics pack.
 abbrev pub is_graphics_candidate : Candidate → Bool
-is_graphics_candidate (Near pack doubts) = not (is_idle_pack pack) && ((doubts == 0) || is_graphics_pack pack)
+is_graphics_candidate (Near pack distance) = not (is_idle_pack pack)
+    && ((distance == 0) || is_graphics_pack pack)
 is_graphics_candidate candidate = false
 
 -- the modes and items that discs carry: line graphics, graphics, extended graphics, MIDI
@@ -76,6 +77,6 @@ has_used_mode codeword = list_any (λ mode. slice_index_or codeword 0 0 == mode)
 -- whether a candidate is a doubtful codeword: not the idle pack, of a mode and item that no disc carries, and with a wrong
 -- symbol
 abbrev pub is_doubtful_candidate : Candidate → Bool
-is_doubtful_candidate (Near pack doubts) = not (is_idle_pack pack)
-    && (not (doubts == 0) && not (has_used_mode pack))
+is_doubtful_candidate (Near pack distance) = not (is_idle_pack pack)
+    && (not (distance == 0) && not (has_used_mode pack))
 is_doubtful_candidate candidate = false

@@ -11,12 +11,12 @@ use Rattle.rw_mend.specs.declared.candidates.Candidate.TheVariants.{Silent, Lost
 
 -- whether a candidate is a codeword
 abbrev pub is_near : Candidate → Bool
-is_near (Near pack doubts) = true
+is_near (Near pack distance) = true
 is_near candidate = false
 
 -- whether a candidate is this codeword
 abbrev pub is_of : List ℕ → Candidate → Bool
-is_of codeword (Near pack doubts) = differences pack codeword == 0
+is_of codeword (Near pack distance) = differences pack codeword == 0
 is_of codeword candidate = false
 
 -- the number of candidates that are this codeword
@@ -26,14 +26,14 @@ votes candidates codeword = count_by (is_of codeword) candidates
 -- Whether a codeword of this distance is at least as good as another candidate: that one is no codeword; or it has a
 -- greater distance; or it has the same distance, and is the same codeword or has fewer votes.
 abbrev pub stands : List Candidate → List ℕ → ℕ → Candidate → Bool
-stands candidates pack doubts (Near other more) = nat_lt doubts more
-    || ((doubts == more)
+stands candidates pack distance (Near other more) = nat_lt distance more
+    || ((distance == more)
     && ((differences pack other == 0) || nat_lt (votes candidates other) (votes candidates pack)))
-stands candidates pack doubts candidate = true
+stands candidates pack distance candidate = true
 
 -- whether a candidate is a codeword that is at least as good as each of the candidates
 abbrev pub is_best : List Candidate → Candidate → Bool
-is_best candidates (Near pack doubts) = list_all (stands candidates pack doubts) candidates
+is_best candidates (Near pack distance) = list_all (stands candidates pack distance) candidates
 is_best candidates candidate = false
 
 -- the candidate of reading r
@@ -67,7 +67,7 @@ pub record IsAgreedAlone (candidates : List Candidate) (codeword : List ℕ) : T
 
 -- The candidate is this codeword.
 abbrev pub IsOf : List ℕ → Candidate → Type 0
-IsOf codeword (Near pack doubts) = pack ≡ codeword
+IsOf codeword (Near pack distance) = pack ≡ codeword
 IsOf codeword candidate = ⊥
 
 -- This is the mended codeword, with its source. Either reading r is the first whose candidate is best, and the codeword is

@@ -22,7 +22,7 @@ use Rattle.rw_mend.specs.declared.candidates.Candidate.TheVariants.{Near, Silent
 
 -- the symbols of the codeword of a candidate, or zeros if it is no codeword
 abbrev pub candidate_bytes : Candidate → List ℕ
-candidate_bytes (Near pack doubts) = pack
+candidate_bytes (Near pack distance) = pack
 candidate_bytes candidate = idle_pack
 
 -- the codewords of reading r as text, with zeros for a word without a codeword
@@ -62,12 +62,12 @@ pub record IsErrorFreeBeside (words : ℕ) (programs : List (List ℕ)) (r : ℕ
 -- At each word, some reading has the pack of the stream, and this pack counts. No reading has another codeword that counts.
 pub record AreEnough (words : ℕ) (programs packs : List (List ℕ)) : Type 0 where
   pub reading : ℕ → ℕ
-  pub doubts : ℕ → ℕ
+  pub distance : ℕ → ℕ
   pub count : length packs ≡ words
   pub within : (n : ℕ) → n < words → reading n < length programs
   pub counts : (n : ℕ) → n < words → ¬ IsDropped words programs (reading n) n
   pub gives : (n : ℕ) → n < words
-      → given_at programs (reading n) n ≡ Near (slice_index_or packs n []) (doubts n)
+      → given_at programs (reading n) n ≡ Near (slice_index_or packs n []) (distance n)
   pub alone : (n s : ℕ) (other : List ℕ) (more : ℕ) → n < words → s < length programs
       → ¬ IsDropped words programs s n → given_at programs s n ≡ Near other more
       → other ≡ slice_index_or packs n []
@@ -76,9 +76,9 @@ pub record AreEnough (words : ℕ) (programs packs : List (List ℕ)) : Type 0 w
 pub record AllGive (words : ℕ) (programs packs : List (List ℕ)) : Type 0 where
   pub some : 0 < length programs
   pub count : length packs ≡ words
-  pub doubts : ℕ → ℕ → ℕ
+  pub distance : ℕ → ℕ → ℕ
   pub gives : (n r : ℕ) → n < words → r < length programs
-      → given_at programs r n ≡ Near (slice_index_or packs n []) (doubts n r)
+      → given_at programs r n ≡ Near (slice_index_or packs n []) (distance n r)
 
 -- These are one or more readings of program symbols that carry the packs. Each reading has this many blocks, and at most two
 -- wrong symbols in each word, in any places.
@@ -93,8 +93,8 @@ pub record AreDamagedReadings (lead_in blocks : ℕ) (packs readings : List (Lis
 -- zeros. No reading is quiet at a word where reading r has a doubtful codeword.
 pub record CountsAlone (words : ℕ) (programs : List (List ℕ)) (r : ℕ) : Type 0 where
   pub within : r < length programs
-  pub others : (n s : ℕ) (codeword : List ℕ) (doubts : ℕ) → n < words → s < length programs → s ≢ r
-      → ¬ IsDropped words programs s n → given_at programs s n ≡ Near codeword doubts
+  pub others : (n s : ℕ) (codeword : List ℕ) (distance : ℕ) → n < words → s < length programs → s ≢ r
+      → ¬ IsDropped words programs s n → given_at programs s n ≡ Near codeword distance
       → codeword ≡ candidate_bytes (given_at programs r n)
   pub sure : (n : ℕ) → n < words → ¬ IsDoubted programs r n
 

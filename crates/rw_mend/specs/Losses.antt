@@ -13,7 +13,7 @@ is_found None codeword = false
 
 -- whether a candidate is lost: it is a codeword with no wrong symbol, and the mended codeword is another or there is none
 abbrev pub is_lost : Option Mended → Candidate → Bool
-is_lost found (Near pack doubts) = (doubts == 0) && not (is_found found pack)
+is_lost found (Near pack distance) = (distance == 0) && not (is_found found pack)
 is_lost found candidate = false
 
 -- for each word, whether the candidate of reading r is lost

@@ -31,14 +31,14 @@ abbrev pub AreCounted : MendCounts → List (List Candidate) → List (Option Me
 AreCounted counts said found = AreCounts (ways_of said found) counts
 
 -- The tallies count the words, and `sources` has the bytes that name their sources if there is room for all words.
-pub record AreTold (before : List ℕ) (words : ℕ) (sources : List ℕ) (tallies : Tallies)
+pub record CountsWords (before : List ℕ) (words : ℕ) (sources : List ℕ) (tallies : Tallies)
     (said : List (List Candidate)) (found : List (Option Mended)) : Type 0 where
   pub tallies_are : AreTallies found tallies
   pub size : length sources ≡ length before
   pub put : words ≤ length before → sources ≡ map source_byte found ++ drop (length found) before
 
--- The words are counted as in `AreTold`, and `lost` counts the lost words of each reading.
+-- The words are counted as in `CountsWords`, and `lost` counts the lost words of each reading.
 abbrev pub AreReported : List ℕ → ℕ → List ℕ → Tallies → List ℕ → List (List Candidate) → List (Option Mended)
     → Type 0
 AreReported before words sources tallies lost said found =
-    AreTold before words sources tallies said found × AreLosses lost said found
+    CountsWords before words sources tallies said found × AreLosses lost said found

@@ -4,7 +4,7 @@ ghost use Rattle.std.specs.List.{list_any};
 ghost use Rattle.rw_code.specs.Codeword.{IsWord, differences};
 ghost use Rattle.rw_code.specs.Packs.{idle_pack};
 ghost use Rattle.rw_mend.specs.declared.candidates.WordReading.{WordReading};
-ghost use Rattle.rw_mend.specs.Candidates.{GivesNear, doubts_of, has_used_mode, instructions, is_doubtful_candidate, is_graphics_pack, is_graphics_candidate, is_idle_pack, is_idle_candidate, is_quiet_candidate, candidate_of};
+ghost use Rattle.rw_mend.specs.Candidates.{GivesNear, distance_of, has_used_mode, instructions, is_doubtful_candidate, is_graphics_pack, is_graphics_candidate, is_idle_pack, is_idle_candidate, is_quiet_candidate, candidate_of};
 
 use crate::choice::is_same;
 use rw_code::{Fixed, Pack, Word, correct, words_have_24_symbols};
@@ -46,7 +46,7 @@ pub enum Candidate {
         pack: Pack,
         /// The distance: the number of symbols in which the word differs from the codeword. The idle pack has
         /// the distance 3 if the word was read partly.
-        doubts: u8,
+        distance: u8,
     },
 }
 
@@ -54,7 +54,7 @@ pub enum Candidate {
 pub(crate) const MOST_WRONG: u8 = 2;
 
 // The distance of the idle pack if some block is unread. No other near codeword has so great a distance.
-const IDLE_DOUBTS: u8 = 3;
+const IDLE_DISTANCE: u8 = 3;
 
 /// The candidate of a reading at a word, regardless of the other readings.
 pub fn decode(reading: &WordReading) -> Candidate
@@ -66,7 +66,7 @@ pub fn decode(reading: &WordReading) -> Candidate
     match correct(&reading.word) {
         Some(fixed) => Candidate::Near {
             pack: fixed.pack,
-            doubts: doubts(reading.coverage, &fixed),
+            distance: distance(reading.coverage, &fixed),
         },
         None => Candidate::Lost { word: reading.word },
     }
@@ -83,7 +83,7 @@ pub(crate) fn decode_likely(other: &Candidate, reading: &WordReading) -> Candida
     match near(other, &reading.word) {
         Some(fixed) => Candidate::Near {
             pack: fixed.pack,
-            doubts: doubts(reading.coverage, &fixed),
+            distance: distance(reading.coverage, &fixed),
         },
         None => decode(reading),
     }
@@ -125,22 +125,22 @@ pub(crate) fn decode_blank(coverage: Coverage) -> Candidate
         Coverage::Unread => Candidate::Silent,
         Coverage::Partly => Candidate::Near {
             pack: Pack::idle(),
-            doubts: IDLE_DOUBTS,
+            distance: IDLE_DISTANCE,
         },
         Coverage::Whole => Candidate::Near {
             pack: Pack::idle(),
-            doubts: 0,
+            distance: 0,
         },
     }
 }
 
 // The distance of a codeword: the number of wrong symbols, or 3 for the idle pack if some block is unread.
-fn doubts(coverage: Coverage, fixed: &Fixed) -> u8
+fn distance(coverage: Coverage, fixed: &Fixed) -> u8
     ensures { (word : List ℕ) → fixed.now.wrong ≡ differences word fixed.now.pack
-        → result ≡ doubts_of coverage word fixed.now.pack }
+        → result ≡ distance_of coverage word fixed.now.pack }
 {
     if coverage == Coverage::Partly && is_idle_pack(&fixed.pack) {
-        return IDLE_DOUBTS;
+        return IDLE_DISTANCE;
     }
     fixed.wrong
 }
@@ -178,8 +178,8 @@ impl Candidate {
         ensures { result ≡ is_graphics_candidate self.now }
     {
         match self {
-            Candidate::Near { pack, doubts } => {
-                !is_idle_pack(pack) && (*doubts == 0 || is_graphics_pack(pack))
+            Candidate::Near { pack, distance } => {
+                !is_idle_pack(pack) && (*distance == 0 || is_graphics_pack(pack))
             }
             _ => false,
         }
@@ -191,8 +191,8 @@ impl Candidate {
         ensures { result ≡ is_doubtful_candidate self.now }
     {
         match self {
-            Candidate::Near { pack, doubts } => {
-                !(*doubts == 0) && !is_idle_pack(pack) && !has_used_mode(pack)
+            Candidate::Near { pack, distance } => {
+                !(*distance == 0) && !is_idle_pack(pack) && !has_used_mode(pack)
             }
             _ => false,
         }

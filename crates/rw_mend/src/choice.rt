@@ -99,30 +99,30 @@ fn is_best(candidates: &[Candidate], candidate: &Candidate) -> bool
     ensures { result ≡ is_best candidates.now candidate.now }
 {
     match candidate {
-        Candidate::Near { pack, doubts } => stands_beside_all(candidates, pack, *doubts),
+        Candidate::Near { pack, distance } => stands_beside_all(candidates, pack, *distance),
         _ => false,
     }
 }
 
-fn stands_beside_all(candidates: &[Candidate], pack: &Pack, doubts: u8) -> bool
-    ensures { result ≡ is_best candidates.now (TheVariants.Near pack.now doubts) }
+fn stands_beside_all(candidates: &[Candidate], pack: &Pack, distance: u8) -> bool
+    ensures { result ≡ is_best candidates.now (TheVariants.Near pack.now distance) }
 {
     candidates
         .iter()
-        .all(|candidate| stands(candidates, pack, doubts, candidate))
+        .all(|candidate| stands(candidates, pack, distance, candidate))
 }
 
 // Whether a codeword is at least as good as another candidate.
-fn stands(candidates: &[Candidate], pack: &Pack, doubts: u8, candidate: &Candidate) -> bool
-    ensures { result ≡ stands candidates.now pack.now doubts candidate.now }
+fn stands(candidates: &[Candidate], pack: &Pack, distance: u8, candidate: &Candidate) -> bool
+    ensures { result ≡ stands candidates.now pack.now distance candidate.now }
 {
     match candidate {
         Candidate::Near {
             pack: other,
-            doubts: more,
+            distance: more,
         } => {
-            doubts < *more
-                || doubts == *more
+            distance < *more
+                || distance == *more
                     && (is_same(pack, other) || votes(candidates, other) < votes(candidates, pack))
         }
         _ => true,
@@ -152,7 +152,7 @@ fn is_of(pack: &Pack, candidate: &Candidate) -> bool
 
 /// Whether two codewords are the same.
 pub(crate) fn is_same(one: &Pack, other: &Pack) -> bool
-    ensures told { result ≡ (differences one.now other.now == 0) }
+    ensures reported { result ≡ (differences one.now other.now == 0) }
     ensures same { result ≡ true → one.now ≡ other.now }
     ensures other { result ≡ false → one.now ≢ other.now }
 {

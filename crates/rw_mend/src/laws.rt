@@ -81,9 +81,9 @@ pub fn one_codeword_is_mended()
 
 /// A law: if only one codeword counts at a word, it is the result, whatever its distance.
 pub fn a_codeword_that_counts_alone_is_mended()
-    ensures { (candidates : List Candidate) (codeword : List ℕ) (r doubts : ℕ) (found : Option Mended)
+    ensures { (candidates : List Candidate) (codeword : List ℕ) (r distance : ℕ) (found : Option Mended)
         → r < length candidates
-        → candidate_of_reading candidates r ≡ TheVariants.Near codeword doubts
+        → candidate_of_reading candidates r ≡ TheVariants.Near codeword distance
         → ((s : ℕ) (other : List ℕ) (more : ℕ) → s < length candidates
         → candidate_of_reading candidates s ≡ TheVariants.Near other more → other ≡ codeword)
         → IsMending candidates found → mended_bytes found ≡ codeword }
@@ -169,12 +169,12 @@ pub fn the_order_of_readings_changes_names_alone()
         → AreMended words programs said found → AreMended words others saying other
         → mended_text found ≡ mended_text other }
     ensures many { (count lead_in : ℕ) (readings others old new turned old_sources sources named : List ℕ)
-        (told retold : Tallies) → count ≤ 254 → length others ≡ length readings
+        (tallies other_tallies : Tallies) → count ≤ 254 → length others ≡ length readings
         → IsPermutation (parts count (length readings / count) readings)
         (parts count (length others / count) others)
-        → AreAllMendedInto count lead_in readings old new old_sources sources told
-        → AreAllMendedInto count lead_in others old turned old_sources named retold
-        → (turned ≡ new) × (retold.agreed ≡ told.agreed) × (retold.none ≡ told.none) }
+        → AreAllMendedInto count lead_in readings old new old_sources sources tallies
+        → AreAllMendedInto count lead_in others old turned old_sources named other_tallies
+        → (turned ≡ new) × (other_tallies.agreed ≡ tallies.agreed) × (other_tallies.none ≡ tallies.none) }
     ensures two { (lead_in : ℕ) (first second old new turned : List ℕ) (counts others : MendCounts)
         → length second ≡ length first → IsMendedInto lead_in first second old new counts
         → IsMendedInto lead_in second first old turned others

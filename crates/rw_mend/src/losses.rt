@@ -31,7 +31,7 @@ fn is_lost(found: &Option<Mended>, candidate: &Candidate) -> bool
     ensures { result ≡ is_lost found.now candidate.now }
 {
     match candidate {
-        Candidate::Near { pack, doubts } => *doubts == 0 && !is_found(found, pack),
+        Candidate::Near { pack, distance } => *distance == 0 && !is_found(found, pack),
         _ => false,
     }
 }

@@ -154,8 +154,8 @@ fn will_miss(
 fn misses_here(row: &[Candidate], r: usize, n: usize, calm: &mut usize) -> bool
     requires reading { r < length row.now }
     requires number { n < 2 ^ 63 }
-    ensures told { (programs : List (List ℕ)) → length programs ≡ length row.now → IsRow programs n row.now
-        → MatchBool result (Misses programs r n) (¬ Misses programs r n) }
+    ensures reported { (programs : List (List ℕ)) → length programs ≡ length row.now
+        → IsRow programs n row.now → MatchBool result (Misses programs r n) (¬ Misses programs r n) }
     ensures calm { (programs : List (List ℕ)) → length programs ≡ length row.now → IsRow programs n row.now
         → IsCalm programs n calm.old → IsCalm programs n calm.new }
 {
@@ -183,7 +183,7 @@ fn misses_at(
     requires history { IsHistory program.now m history.now }
     requires quiet { is_quiet_candidate (given_at (programs_in readings.now) r m) ≡ true }
     requires calm { IsCalm (programs_in readings.now) m calm.old }
-    ensures told { MatchBool result (Misses (programs_in readings.now) r m)
+    ensures reported { MatchBool result (Misses (programs_in readings.now) r m)
         (¬ Misses (programs_in readings.now) r m) }
     ensures calm { (n : ℕ) → IsCalm (programs_in readings.now) n calm.old
         → IsCalm (programs_in readings.now) n calm.new }
@@ -197,8 +197,8 @@ fn misses_at(
 // Whether some reading has graphics at the current word `n`.
 fn has_graphics_here(row: &[Candidate], n: usize, calm: &mut usize) -> bool
     requires { n < 2 ^ 63 }
-    ensures told { (programs : List (List ℕ)) → length programs ≡ length row.now → IsRow programs n row.now
-        → MatchBool result (HasGraphics programs n) (¬ HasGraphics programs n) }
+    ensures reported { (programs : List (List ℕ)) → length programs ≡ length row.now
+        → IsRow programs n row.now → MatchBool result (HasGraphics programs n) (¬ HasGraphics programs n) }
     ensures calm { (programs : List (List ℕ)) → length programs ≡ length row.now → IsRow programs n row.now
         → IsCalm programs n calm.old → IsCalm programs n calm.new }
 {
@@ -221,7 +221,7 @@ fn has_graphics_at(readings: &Readings, m: usize, calm: &mut usize) -> bool
     requires readings { AreHeldReadings readings.now }
     requires within { HoldsWord m (size_in readings.now) }
     requires calm { IsCalm (programs_in readings.now) m calm.old }
-    ensures told { MatchBool result (HasGraphics (programs_in readings.now) m)
+    ensures reported { MatchBool result (HasGraphics (programs_in readings.now) m)
         (¬ HasGraphics (programs_in readings.now) m) }
     ensures calm { (n : ℕ) → IsCalm (programs_in readings.now) n calm.old
         → IsCalm (programs_in readings.now) n calm.new }

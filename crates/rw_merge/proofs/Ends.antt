@@ -6,14 +6,14 @@ use Rattle.cdg_io.specs.Pump.{RoseBy}
 use Rattle.cdg_io.proofs.PumpSteps.{some_more}
 use Rattle.cdg_io.proofs.Stops.{rose_once_since}
 use Rattle.raw_subcode.specs.Sizes.{most_units}
-use Rattle.rw_merge.specs.Merging.{EndsAtStop, ToldUnlessAhead, full_reads}
+use Rattle.rw_merge.specs.Merging.{EndsAtStop, EndReportedUnlessAhead, full_reads}
 use Rattle.rw_merge.specs.declared.merge.MergeStop.{MergeStop}
 use Rattle.rw_merge.specs.declared.merge.MergeStop.TheVariants.{FirstFault, SecondFault, WriteFault, TooLong, Torn, SecondTorn, Unequal}
 
 -- no end was reported before, and the same number of bytes was consumed from both inputs
 module _ (n n' n'' m m' m'' : Count) (same : n' ≡ n) (same' : m' ≡ m) (base a b u v : ℕ) (a_is : a ≡ base + u)
     (b_is : b ≡ base + v) where
-  ahead_since : ToldUnlessAhead u v (from_to n' n'') → ToldUnlessAhead a b (from_to n n'')
+  ahead_since : EndReportedUnlessAhead u v (from_to n' n'') → EndReportedUnlessAhead a b (from_to n n'')
   ahead_since one = (
     λ most. rose_once_since same (one.0 (omega (arith, most, a_is, b_is))),
     λ less. one.1 (omega (arith, less, a_is, b_is)) ∙ same,
@@ -21,16 +21,16 @@ module _ (n n' n'' m m' m'' : Count) (same : n' ≡ n) (same' : m' ≡ m) (base 
 
   pub stop_since : (stop : MergeStop) → EndsAtStop stop u v (from_to n' n'') (from_to m' m'')
       → EndsAtStop stop a b (from_to n n'') (from_to m m'')
-  stop_since FirstFault (untold, untold') = (untold ∙ same, untold' ∙ same')
-  stop_since WriteFault (untold, untold') = (untold ∙ same, untold' ∙ same')
-  stop_since (Torn block) (told, untold) = (rose_once_since same told, untold ∙ same')
-  stop_since SecondFault (one, untold) = (ahead_since one, untold ∙ same')
-  stop_since TooLong (one, untold) = (ahead_since one, untold ∙ same')
-  stop_since (SecondTorn block) (one, told) = (ahead_since one, rose_once_since same' told)
-  stop_since (Unequal blocks) (inl (less, told, untold)) =
-      inl (omega (arith, less, a_is, b_is), rose_once_since same told, untold ∙ same')
-  stop_since (Unequal blocks) (inr (less, untold, told)) =
-      inr (omega (arith, less, a_is, b_is), untold ∙ same, rose_once_since same' told)
+  stop_since FirstFault (unreported, unreported') = (unreported ∙ same, unreported' ∙ same')
+  stop_since WriteFault (unreported, unreported') = (unreported ∙ same, unreported' ∙ same')
+  stop_since (Torn block) (reported, unreported) = (rose_once_since same reported, unreported ∙ same')
+  stop_since SecondFault (one, unreported) = (ahead_since one, unreported ∙ same')
+  stop_since TooLong (one, unreported) = (ahead_since one, unreported ∙ same')
+  stop_since (SecondTorn block) (one, reported) = (ahead_since one, rose_once_since same' reported)
+  stop_since (Unequal blocks) (inl (less, reported, unreported)) =
+      inl (omega (arith, less, a_is, b_is), rose_once_since same reported, unreported ∙ same')
+  stop_since (Unequal blocks) (inr (less, unreported, reported)) =
+      inr (omega (arith, less, a_is, b_is), unreported ∙ same, rose_once_since same' reported)
 
 -- one more block was read
 pub block_more : (block : ℕ) (us : List ℕ) (before now last : Count) → length us ≡ 96

@@ -10,7 +10,7 @@ use Rattle.cdg_io.specs.Change.{Change, change, from_to}
 use Rattle.cdg_io.specs.Pump.{RoseBy}
 use Rattle.cdg_io.specs.Whole.{ReadsUpTo}
 use Rattle.cdg_io.specs.declared.ends.Source.{Ghosts as Source}
-use Rattle.rw_merge.specs.Merging.{ReadInput, ToldUnlessAhead, read_input}
+use Rattle.rw_merge.specs.Merging.{ReadInput, EndReportedUnlessAhead, read_input}
 use Rattle.rw_merge.specs.Steps.{AsksFor, IsHalfRead, ReadsNoMore, ReadsPair}
 use Rattle.rw_merge.specs.declared.merge.MergeStop.{MergeStop}
 use Rattle.rw_merge.specs.declared.merge.MergeStop.TheVariants.{FirstFault, SecondFault, TooLong, Torn, SecondTorn, Unequal}
@@ -80,7 +80,8 @@ module _ {E : Type 0} {size n : ℕ} {input : ReadInput} {faults : Change ℕ} {
       ]
 
   -- nothing was consumed at the end
-  unless_ahead_none : n ≡ 0 → 0 < size → (m : ℕ) → ToldUnlessAhead (length (take n room)) m input.counts.ends
+  unless_ahead_none : n ≡ 0 → 0 < size → (m : ℕ)
+      → EndReportedUnlessAhead (length (take n room)) m input.counts.ends
   unless_ahead_none none some m = (
     λ most. a.counts.end.ended (omega (arith, none, some)),
     λ less. absurd (omega (arith, less, none, size_taken)),
@@ -99,7 +100,7 @@ module _ {E : Type 0} {n : ℕ} {input : ReadInput} {faults : Change ℕ} {room 
 
   -- less than a block was consumed from the other input
   unless_ahead : IsWholeOrNone n → (m : ℕ) → m < 96
-      → ToldUnlessAhead (length (take n room)) m input.counts.ends
+      → EndReportedUnlessAhead (length (take n room)) m input.counts.ends
   unless_ahead (inl none) m short = unless_ahead_none a none (omega arith) m
   unless_ahead (inr whole) m short =
       (λ most. absurd (omega (arith, most, whole, short, size_taken a)), λ less. a.counts.end.goes_on whole)

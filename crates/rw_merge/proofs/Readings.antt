@@ -118,15 +118,15 @@ equally_wrong_self (x ∷ xs) (w ∷ ws) size =
     let rest = equally_wrong_self xs ws (omega arith) in rw (eq-eqb x x refl) (omega arith)
 
 -- the numbers of wrong symbols in each of two readings, added
-pub doubts_of_both : (ws xs ys : List ℕ) → length ws ≡ length xs → length ws ≡ length ys
+pub penalty_of_both : (ws xs ys : List ℕ) → length ws ≡ length xs → length ws ≡ length ys
     → 2 * equally_wrong xs ys ws + differences xs ys ≤ differences ws xs + differences ws ys
 unfolding equally_wrong differences
-doubts_of_both [] [] ys xs_size ys_size = omega arith
-doubts_of_both [] (x ∷ xs) ys xs_size ys_size = absurd (omega arith)
-doubts_of_both (w ∷ ws) [] ys xs_size ys_size = absurd (omega arith)
-doubts_of_both (w ∷ ws) (x ∷ xs) [] xs_size ys_size = absurd (omega arith)
-doubts_of_both (w ∷ ws) (x ∷ xs) (y ∷ ys) xs_size ys_size =
-    let rest = doubts_of_both ws xs ys (omega arith) (omega arith) in
+penalty_of_both [] [] ys xs_size ys_size = omega arith
+penalty_of_both [] (x ∷ xs) ys xs_size ys_size = absurd (omega arith)
+penalty_of_both (w ∷ ws) [] ys xs_size ys_size = absurd (omega arith)
+penalty_of_both (w ∷ ws) (x ∷ xs) [] xs_size ys_size = absurd (omega arith)
+penalty_of_both (w ∷ ws) (x ∷ xs) (y ∷ ys) xs_size ys_size =
+    let rest = penalty_of_both ws xs ys (omega arith) (omega arith) in
     elim (eqb_tells x y) [
       | inl (x_is_y, same_xy) ↦
           elim (eqb_tells x w) [
@@ -198,37 +198,39 @@ equally_wrong_more (x ∷ xs) (y ∷ ys) (w ∷ ws) (suc i) y_size w_size lt =
     omega arith
 
 -- the number of symbols against a word, up to a position
-abbrev pub doubts_to : ℕ → List ℕ → List ℕ → List ℕ → ℕ
-doubts_to i xs ys ws =
+abbrev pub penalty_to : ℕ → List ℕ → List ℕ → List ℕ → ℕ
+penalty_to i xs ys ws =
     2 * equally_wrong (take i xs) (take i ys) (take i ws) + differences (take i xs) (take i ys)
 
-pub no_doubts : 0 ≡ 2 * equally_wrong [] [] [] + differences [] []
+pub no_penalty : 0 ≡ 2 * equally_wrong [] [] [] + differences [] []
 unfolding equally_wrong differences
-no_doubts = refl
+no_penalty = refl
 
-pub doubts_differ : (xs ys ws : List ℕ) (i : ℕ) → length xs ≡ length ys → length xs ≡ length ws
+pub penalty_differ : (xs ys ws : List ℕ) (i : ℕ) → length xs ≡ length ys → length xs ≡ length ws
     → i < length xs → get_or xs i 0 ≢ get_or ys i 0
-    → doubts_to (i + 1) xs ys ws ≡ doubts_to i xs ys ws + 1
-doubts_differ xs ys ws i y_size w_size lt differ =
+    → penalty_to (i + 1) xs ys ws ≡ penalty_to i xs ys ws + 1
+penalty_differ xs ys ws i y_size w_size lt differ =
     let step = equally_wrong_more xs ys ws i y_size w_size lt in
     let rest = rw (ne_eqb (get_or xs i 0) (get_or ys i 0) differ) at step in
     let count = differences_other_more xs ys i y_size lt differ in
     rw add-one (let same = rw add-one at count in omega arith)
 
-pub doubts_wrong : (xs ys ws : List ℕ) (i : ℕ) → length xs ≡ length ys → length xs ≡ length ws → i < length xs
+pub penalty_wrong : (xs ys ws : List ℕ) (i : ℕ) → length xs ≡ length ys → length xs ≡ length ws
+    → i < length xs
     → get_or xs i 0 ≡ get_or ys i 0 → get_or xs i 0 ≢ get_or ws i 0
-    → doubts_to (i + 1) xs ys ws ≡ doubts_to i xs ys ws + 2
-doubts_wrong xs ys ws i y_size w_size lt equal wrong =
+    → penalty_to (i + 1) xs ys ws ≡ penalty_to i xs ys ws + 2
+penalty_wrong xs ys ws i y_size w_size lt equal wrong =
     let step = equally_wrong_more xs ys ws i y_size w_size lt in
     let rest =
     rw (eq-eqb (get_or xs i 0) (get_or ys i 0) equal, ne_eqb (get_or xs i 0) (get_or ws i 0) wrong) at step in
     let count = differences_same_more xs ys i y_size lt equal in
     rw add-one (let same = rw add-one at count in omega arith)
 
-pub doubts_right : (xs ys ws : List ℕ) (i : ℕ) → length xs ≡ length ys → length xs ≡ length ws → i < length xs
+pub penalty_right : (xs ys ws : List ℕ) (i : ℕ) → length xs ≡ length ys → length xs ≡ length ws
+    → i < length xs
     → get_or xs i 0 ≡ get_or ys i 0 → get_or xs i 0 ≡ get_or ws i 0
-    → doubts_to (i + 1) xs ys ws ≡ doubts_to i xs ys ws
-doubts_right xs ys ws i y_size w_size lt equal right =
+    → penalty_to (i + 1) xs ys ws ≡ penalty_to i xs ys ws
+penalty_right xs ys ws i y_size w_size lt equal right =
     let step = equally_wrong_more xs ys ws i y_size w_size lt in
     let rest =
     rw (eq-eqb (get_or xs i 0) (get_or ys i 0) equal, eq-eqb (get_or xs i 0) (get_or ws i 0) right) at step in

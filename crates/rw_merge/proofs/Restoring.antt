@@ -19,7 +19,7 @@ use Rattle.rw_merge.specs.Readings.{IsDamagedTwice, IsReadTwice, MergeRestores}
 use Rattle.rw_merge.specs.declared.merge.Merged.{Merged}
 use Rattle.rw_merge.specs.declared.merge.MergeStop.{MergeStop}
 use Rattle.rw_merge.specs.declared.merge.MergeStop.TheVariants.{FirstFault, SecondFault, WriteFault, TooLong, Torn, SecondTorn, Unequal}
-use Rattle.rw_merge.proofs.Readings.{doubts_of_both, only_one_agreed}
+use Rattle.rw_merge.proofs.Readings.{penalty_of_both, only_one_agreed}
 
 small_before : (block rest : List ℕ) → ((p : ℕ) → get_or rest p 0 < 64) → (p : ℕ)
     → get_or (symbols_of block ++ rest) p 0 < 64
@@ -129,7 +129,7 @@ enough_of_both lead_in blocks packs first second damaged =
           let in_all : n < whole_packs (length damaged.symbols / 96) = omega (arith, lt, many) in
           omega (
             arith,
-            doubts_of_both ws xs ys (w_size ∙ sym x_word.size) (w_size ∙ sym y_word.size),
+            penalty_of_both ws xs ys (w_size ∙ sym x_word.size) (w_size ∙ sym y_word.size),
             damaged.first_damage.words n in_all,
             damaged.second_damage.words n in_all,
           );

@@ -117,34 +117,36 @@ EndsSecond (Err (SecondTorn block)) left = IsAtEnd left
 EndsSecond (Err stop) left = ⊤
 
 -- The end of an input was recorded once.
-abbrev pub Told : Change Count → Type 0
-Told ends = RoseOnce ends.before ends.after
+abbrev pub EndReported : Change Count → Type 0
+EndReported ends = RoseOnce ends.before ends.after
 
 -- The end of an input was not recorded.
-abbrev pub Untold : Change Count → Type 0
-Untold ends = ends.after ≡ ends.before
+abbrev pub EndUnreported : Change Count → Type 0
+EndUnreported ends = ends.after ≡ ends.before
 
 -- Two inputs were read in turn: the end of this input was recorded once if no more bytes of it were consumed than of
 -- the other input, otherwise it was not recorded.
-abbrev pub ToldUnlessAhead : ℕ → ℕ → Change Count → Type 0
-ToldUnlessAhead bytes other_bytes ends = (bytes ≤ other_bytes → Told ends)
-    × (other_bytes < bytes → Untold ends)
+abbrev pub EndReportedUnlessAhead : ℕ → ℕ → Change Count → Type 0
+EndReportedUnlessAhead bytes other_bytes ends = (bytes ≤ other_bytes → EndReported ends)
+    × (other_bytes < bytes → EndUnreported ends)
 
 -- The counts of the ends of two readings if a merge stopped after these numbers of bytes. The merge reads a block of
 -- the first and then a block of the second, and stops reading an input at its end.
 abbrev pub EndsAtStop : MergeStop → ℕ → ℕ → Change Count → Change Count → Type 0
-EndsAtStop (Torn block) one other first second = Told first × Untold second
-EndsAtStop (SecondTorn block) one other first second = ToldUnlessAhead one other first × Told second
-EndsAtStop (Unequal blocks) one other first second = ((one < other) × Told first × Untold second)
-    ⊎ ((other < one) × Untold first × Told second)
-EndsAtStop TooLong one other first second = ToldUnlessAhead one other first × Untold second
-EndsAtStop SecondFault one other first second = ToldUnlessAhead one other first × Untold second
-EndsAtStop FirstFault one other first second = Untold first × Untold second
-EndsAtStop WriteFault one other first second = Untold first × Untold second
+EndsAtStop (Torn block) one other first second = EndReported first × EndUnreported second
+EndsAtStop (SecondTorn block) one other first second = EndReportedUnlessAhead one other first
+    × EndReported second
+EndsAtStop (Unequal blocks) one other first second =
+    ((one < other) × EndReported first × EndUnreported second)
+    ⊎ ((other < one) × EndUnreported first × EndReported second)
+EndsAtStop TooLong one other first second = EndReportedUnlessAhead one other first × EndUnreported second
+EndsAtStop SecondFault one other first second = EndReportedUnlessAhead one other first × EndUnreported second
+EndsAtStop FirstFault one other first second = EndUnreported first × EndUnreported second
+EndsAtStop WriteFault one other first second = EndUnreported first × EndUnreported second
 
 -- If the merge is complete, both ends were recorded.
 abbrev pub EndsBoth : {A : Type 0} → Result A MergeStop → ℕ → ℕ → Change Count → Change Count → Type 0
-EndsBoth (Ok done) one other first second = Told first × Told second
+EndsBoth (Ok done) one other first second = EndReported first × EndReported second
 EndsBoth (Err stop) one other first second = EndsAtStop stop one other first second
 
 -- the number of full reads for this number of bytes: one for each whole block, and one for the byte after the last

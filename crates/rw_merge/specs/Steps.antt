@@ -12,10 +12,10 @@ use Rattle.rw_merge.specs.Agreement.{IsAgreement}
 use Rattle.rw_merge.specs.Windows.{Windows}
 use Rattle.rw_merge.specs.declared.packs.Packs.{Packs}
 use Rattle.cdg_io.specs.Causes.{Count, HasCause, Rose}
-use Rattle.cdg_io.specs.Counts.{TellsRead}
+use Rattle.cdg_io.specs.Counts.{ReportsRead}
 use Rattle.cdg_io.specs.Change.{Change}
 use Rattle.cdg_io.specs.Moves.{ConsumesBelow}
-use Rattle.rw_merge.specs.Merging.{EndsAtStop, EndsBoth, ReadInput, ReadsBoth, Told, Untold}
+use Rattle.rw_merge.specs.Merging.{EndsAtStop, EndsBoth, ReadInput, ReadsBoth, EndReported, EndUnreported}
 use Rattle.rw_merge.specs.declared.merge.Merged.{Merged}
 use Rattle.rw_merge.specs.declared.merge.MergeStop.{MergeStop}
 use Rattle.rw_merge.specs.declared.merge.MergeStop.TheVariants.{FirstFault, SecondFault, WriteFault, TooLong, Torn, SecondTorn, Unequal}
@@ -93,8 +93,8 @@ IsEndRead (Err stop) first second = ⊥
 
 -- The ends of both inputs were recorded as this result requires, when a pair of blocks was read.
 abbrev pub EndsOfPair : Result Bool MergeStop → ℕ → ℕ → Change Count → Change Count → Type 0
-EndsOfPair (Ok true) one other first second = Untold first × Untold second
-EndsOfPair (Ok false) one other first second = Told first × Told second
+EndsOfPair (Ok true) one other first second = EndUnreported first × EndUnreported second
+EndsOfPair (Ok false) one other first second = EndReported first × EndReported second
 EndsOfPair (Err stop) one other first second = EndsAtStop stop one other first second
 
 -- The pair of blocks with this number was read. If both blocks are whole, these are the blocks.
@@ -120,7 +120,7 @@ pub record AsksFor {E : Type 0} (size : ℕ) (input : ReadInput) (faults : Chang
   pub end : IfOk result (λ n. n < size → IsAtEnd input.left.after)
   pub part : OnErr result (ConsumesBelow input.left.before input.left.after size)
   pub cause : HasCause faults.before faults.after result
-  pub counts : TellsRead size size input.counts result
+  pub counts : ReportsRead size size input.counts result
 
 -- A count of faults rose.
 abbrev pub Rises : Change ℕ → Type 0

@@ -4,13 +4,13 @@ ghost use Rattle.rw_code.specs.Codeword.{IsWord, differences};
 ghost use Rattle.rw_code.specs.Packs.{idle_pack};
 ghost use Rattle.rw_merge.specs.Agreement.{GivesAgreed, IsAgreed};
 
-use crate::counting::{differing, doubts};
+use crate::counting::{differing, penalty};
 use crate::elimination::{WordSums, solved};
 use crate::places::wrong_places;
 use rw_code::{Pack, Word, correct, correct_by_sums};
 
 // The maximum number of doubts against an agreed codeword.
-const MOST_DOUBTS: u8 = 4;
+const MAX_PENALTY: u8 = 4;
 
 /// The codeword on which two readings of a word agree: twice the number of symbols in which both are equal
 /// and wrong, plus the number in which they differ, is at most four. There is at most one such codeword, and
@@ -26,7 +26,7 @@ pub fn agree(a: &Word, b: &Word) -> Option<Pack>
         return Some(Pack::idle());
     }
     let apart = differing(a, b);
-    if apart > MOST_DOUBTS {
+    if apart > MAX_PENALTY {
         return None;
     }
     if apart > 0 {
@@ -45,7 +45,7 @@ fn is_idle_agreed(a: &Word, b: &Word) -> bool
     ensures words { IsWord a.now × IsWord b.now }
 {
     let idle = Pack::idle().word();
-    if doubts(a, b, &idle) > MOST_DOUBTS {
+    if penalty(a, b, &idle) > MAX_PENALTY {
         return false;
     }
     true
@@ -92,7 +92,7 @@ fn accept(a: &Word, b: &Word, candidate: &Word) -> Option<Pack>
         (¬ IsAgreed a.now b.now candidate.now)
         (λ pack. IsAgreed a.now b.now pack) }
 {
-    if doubts(a, b, candidate) > MOST_DOUBTS {
+    if penalty(a, b, candidate) > MAX_PENALTY {
         return None;
     }
     Pack::check(candidate)

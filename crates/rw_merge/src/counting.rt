@@ -46,7 +46,7 @@ pub fn differing(first: &Word, second: &Word) -> u8
 
 /// The doubts against a word: two for each symbol in which the readings are equal and differ from the word,
 /// and one for each symbol in which the readings differ.
-pub(crate) fn doubts(first: &Word, second: &Word, word: &Word) -> u8
+pub(crate) fn penalty(first: &Word, second: &Word, word: &Word) -> u8
     ensures count { result ≡ 2 * equally_wrong first.now second.now word.now
         + differences first.now second.now }
     ensures first { IsWord first.now }
@@ -55,16 +55,16 @@ pub(crate) fn doubts(first: &Word, second: &Word, word: &Word) -> u8
     let first = first.bytes();
     let second = second.bytes();
     let word = word.bytes();
-    let mut doubts = 0;
+    let mut penalty = 0;
     for i in 0..SYMBOLS {
-        doubts += doubt(first[i], second[i], word[i]);
+        penalty += symbol_penalty(first[i], second[i], word[i]);
     }
-    doubts
+    penalty
 }
 
 // The doubts at one symbol. It has no branch, so that one step can process several symbols.
 #[inline(always)]
-fn doubt(first: u8, second: u8, word: u8) -> u8
+fn symbol_penalty(first: u8, second: u8, word: u8) -> u8
     ensures apart { first ≢ second → result ≡ 1 }
     ensures wrong { first ≡ second → first ≢ word → result ≡ 2 }
     ensures right { first ≡ second → first ≡ word → result ≡ 0 }

@@ -2,7 +2,7 @@
 ghost use Rattle.std.specs.Prelude.{◌≡◌, ◌≤◌, [], List, ℕ, Err, length, IsOk, IfOk, IfSome, replicate, true};
 ghost use Rattle.std.specs.List.{concat};
 ghost use Rattle.disc_time.specs.Counts.{most_lead_in};
-ghost use Rattle.cdg_io.specs.Causes.{TellsFault};
+ghost use Rattle.cdg_io.specs.Causes.{ReportsFault};
 ghost use Rattle.cdg_io.specs.Change.{change};
 ghost use Rattle.rw_merge.specs.Merging.{EndsBoth, EndsSecond, FirstIsAtEnd, IsMergedText, Merges, ReadsBoth, full_reads, read_input, IsAnswerTo};
 ghost use Rattle.rw_merge.specs.Readings.{IsDamagedTwice, IsReadTwice, MergeRestores};
@@ -131,11 +131,11 @@ impl Merger {
         ensures answer { IsAnswerTo lead_in result (S.left first.old) (T.left second.old) }
         ensures first_end { FirstIsAtEnd result (S.left first.new) }
         ensures second_end { EndsSecond result (T.left second.new) }
-        ensures first_fault { TellsFault MergeStop.FirstFault
+        ensures first_fault { ReportsFault MergeStop.FirstFault
             (S.faults first.old) (S.faults first.new) result }
-        ensures second_fault { TellsFault MergeStop.SecondFault
+        ensures second_fault { ReportsFault MergeStop.SecondFault
             (T.faults second.old) (T.faults second.new) result }
-        ensures write_fault { TellsFault MergeStop.WriteFault
+        ensures write_fault { ReportsFault MergeStop.WriteFault
             (K.faults out.old) (K.faults out.new) result }
     {
         two_readings_give_packs();

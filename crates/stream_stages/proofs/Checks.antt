@@ -171,7 +171,7 @@ checked_blocks form lead_in s bytes n end fresh few whole_units e =
     ap length words_is
     ∙ length-map-range_with_len (form_word form (flat_map symbols_of (drop lead_in blocks))) 0 _
     ∙ ap (word_count form) program_many in
-    let told : words
+    let reported : words
     ≡ map (form_word form (program_symbols form bytes lead_in))
     (below (word_count form (length (blocks_of form bytes) - lead_in))) =
     words_is
@@ -190,7 +190,7 @@ checked_blocks form lead_in s bytes n end fresh few whole_units e =
           (ap (λ (f : FrameCounts). f.good) frames) (ap (λ (f : FrameCounts). f.bad) frames) words_many
           ∙ ap₂ (λ k (ws : List (List ℕ)).
           check_text (min lead_in k) (k - lead_in) ws (map finding words) (readings_for form blocks))
-          blocks_many told;
+          blocks_many reported;
       bad_is = counted.bad;
     }
 
@@ -210,7 +210,7 @@ module _ {S : Type 0} (writes : List ℕ → List ℕ → ℕ → Type 0) (form 
     within = w.within;
     done = tt;
     stopped = λ other e not. subst (λ (h : Option (List ℕ)). Appends held h []) (sym same) (Appends-nil held);
-    ended = λ stop e not. let told : ReadFault ≡ stop = cc in absurd (not (subst IsEarly told refl));
+    ended = λ stop e not. let reported : ReadFault ≡ stop = cc in absurd (not (subst IsEarly reported refl));
     cut = λ e. (cc);
   }
   stopped_early pump_stop.WriteFault same w = absurd (w.no_write refl)
@@ -227,7 +227,7 @@ module _ {S : Type 0} (writes : List ℕ → List ℕ → ℕ → Type 0) (form 
     within = w.within;
     done = tt;
     stopped = λ other e not. subst (λ (h : Option (List ℕ)). Appends held h []) (sym same) (Appends-nil held);
-    ended = λ stop e not. let told : TooLong ≡ stop = cc in absurd (not (subst IsEarly told refl));
+    ended = λ stop e not. let reported : TooLong ≡ stop = cc in absurd (not (subst IsEarly reported refl));
     cut = λ e. (cc);
   }
 
@@ -333,7 +333,7 @@ pub checked_stop : (size : ℕ) (stop : PumpStop) (answer : PlayStop) (left : Op
     → answer ≡ play_stop stop
     → IfSome left (λ all. IsUnlessFault (Err stop) (answer_of size most_units (length all)))
     → IfSome left (λ all. IsAnsweredBy (Err answer) size (length all))
-checked_stop size stop answer None told e = tt
-checked_stop size stop answer (Some all) told e =
-    subst (λ (a : PlayStop). IsAnsweredBy (Err a) size (length all)) (sym told)
+checked_stop size stop answer None reported e = tt
+checked_stop size stop answer (Some all) reported e =
+    subst (λ (a : PlayStop). IsAnsweredBy (Err a) size (length all)) (sym reported)
     (answered_stop size stop all e)

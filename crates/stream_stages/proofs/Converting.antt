@@ -1,6 +1,6 @@
 -- From the run of a pump to a conversion.
 use Rattle.std.proofs.Common.{◌≡◌, ℕ, ◌-◌, List, refl, sym, subst, Result, Ok, Err}
-use Rattle.cdg_io.specs.Causes.{TellsFault}
+use Rattle.cdg_io.specs.Causes.{ReportsFault}
 use Rattle.cdg_io.specs.Change.{moved}
 use Rattle.cdg_io.specs.Pump.{Pumps}
 use Rattle.cdg_io.specs.Reads.{ReadsUnits}
@@ -23,7 +23,7 @@ use Rattle.stream_stages.proofs.Checks.{answered_done, checked_stop}
 use Rattle.stream_stages.proofs.Ends.{ends_stopped, stops_played}
 use Rattle.stream_stages.proofs.Playing.{done_at, stop_at}
 use Rattle.stream_stages.proofs.PlayRuns.{plays_stream}
-use Rattle.stream_stages.proofs.Told.{done_told, stop_told}
+use Rattle.stream_stages.proofs.Reported.{done_reported, stop_reported}
 
 module _ {S K : Type 0} (source : Source S) (sink : Sink K) (form : Form) (lead_in : ℕ) (old new : BlockPacks)
     (before after : S × K) (words : old.words ≡ fresh_words form lead_in) (none : old.bad ≡ 0) where
@@ -35,7 +35,7 @@ module _ {S K : Type 0} (source : Source S) (sink : Sink K) (form : Form) (lead_
 
   converted_at : (answer : Result Pumped PumpStop) (taken : List ℕ) → Runs answer taken
       → ReadsUnits source (unit_size form) most_units before.0 after.0 answer
-      → TellsFault pump_stop.WriteFault (sink.faults before.1) (sink.faults after.1) answer
+      → ReportsFault pump_stop.WriteFault (sink.faults before.1) (sink.faults after.1) answer
       → Plays (conversion form lead_in) source sink before after (played_of lead_in new.bad answer)
   converted_at (Ok pumped) taken p read write =
       let plays = plays_stream form lead_in old words none in
@@ -46,7 +46,7 @@ module _ {S K : Type 0} (source : Source S) (sink : Sink K) (form : Form) (lead_
         stops = tt;
         answer = answered_done (unit_size form) pumped
             (record { blocks = pumped.units - lead_in; bad = new.bad }) _ read.answer;
-        faults = done_told _ _ _ _ read.read_fault.later write.later _ _ read.read_fault.same write.same;
+        faults = done_reported _ _ _ _ read.read_fault.later write.later _ _ read.read_fault.same write.same;
         ended = read.ended;
       }
   converted_at (Err stop) taken p read write =
@@ -57,7 +57,7 @@ module _ {S K : Type 0} (source : Source S) (sink : Sink K) (form : Form) (lead_
             (λ (t : BlockPacks). t.bad) _ taken (unit_size form) _ _ refl refl plays p;
         stops = stops_played stop _ refl;
         answer = checked_stop (unit_size form) _ _ _ refl read.answer;
-        faults = stop_told _ _ _ _ read.read_fault.later write.later _ _ refl read.read_fault.rose
+        faults = stop_reported _ _ _ _ read.read_fault.later write.later _ _ refl read.read_fault.rose
             read.read_fault.same write.rose write.same;
         ended = ends_stopped stop _ _ _ refl read.ended;
       }
@@ -66,7 +66,7 @@ module _ {S K : Type 0} (source : Source S) (sink : Sink K) (form : Form) (lead_
       (taken : List ℕ)
       → result ≡ played_of lead_in new.bad answer → unit_size form ≡ size → Runs answer taken
       → ReadsUnits source size most_units before.0 after.0 answer
-      → TellsFault pump_stop.WriteFault (sink.faults before.1) (sink.faults after.1) answer
+      → ReportsFault pump_stop.WriteFault (sink.faults before.1) (sink.faults after.1) answer
       → Plays (conversion form lead_in) source sink before after result
   converted answer result size taken is sized p read write =
       subst (λ (r : Result Played PlayStop). Plays (conversion form lead_in) source sink before after r)

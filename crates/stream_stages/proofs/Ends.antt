@@ -1,7 +1,7 @@
 -- How a player reports the end of an input.
 use Rattle.std.proofs.Common.{◌≡◌, ◌≢◌, ℕ, Bool, true, false, if◌then◌else◌, List, Result, Ok, Err, IfErr, refl, sym, subst}
 use Rattle.std.specs.Prelude.{nat_lt}
-use Rattle.cdg_io.specs.Pump.{TellsEndOf}
+use Rattle.cdg_io.specs.Pump.{ReportsEndOf}
 use Rattle.cdg_io.specs.declared.pumping.Pumped.{Pumped}
 use Rattle.cdg_io.specs.declared.pumping.PumpStop.{PumpStop}
 use Rattle.cdg_io.specs.declared.pumping.PumpStop.TheVariants as pump
@@ -20,19 +20,20 @@ pump_error stop = Err stop
 abbrev play_error : PlayStop → Result Played PlayStop
 play_error stop = Err stop
 
-ends_in_turn : (stop : PumpStop) (before now : Count) → TellsEndOf (pump_error stop) before now
+ends_in_turn : (stop : PumpStop) (before now : Count) → ReportsEndOf (pump_error stop) before now
     → EndInTurn (play_error (play_stop stop)) before now
-ends_in_turn pump.ReadFault before now told = told
-ends_in_turn pump.WriteFault before now told = told
-ends_in_turn (pump.Torn unit) before now told = told
-ends_in_turn pump.TooLong before now told = told
+ends_in_turn pump.ReadFault before now reported = reported
+ends_in_turn pump.WriteFault before now reported = reported
+ends_in_turn (pump.Torn unit) before now reported = reported
+ends_in_turn pump.TooLong before now reported = reported
 
 -- a call that writes while it reads has stopped
 pub ends_stopped : (stop : PumpStop) (answer : PlayStop) (before now : Count) → answer ≡ play_stop stop
-    → TellsEndOf (pump_error stop) before now
+    → ReportsEndOf (pump_error stop) before now
     → EndInTurn (play_error answer) before now
-ends_stopped stop answer before now is told =
-    subst (λ (s : PlayStop). EndInTurn (play_error s) before now) (sym is) (ends_in_turn stop before now told)
+ends_stopped stop answer before now is reported =
+    subst (λ (s : PlayStop). EndInTurn (play_error s) before now) (sym is)
+    (ends_in_turn stop before now reported)
 
 -- a stop of a pump is not `PastEnd`
 pub stops_stream : (stop : PumpStop) → IsStreamStop (play_stop stop)
@@ -54,25 +55,25 @@ stops_counts (Err stop) X part = subst IsStreamStop (sym part.0) tt
 pub ends_counts : (answer : Result Played PlayStop) (X : PlayStop → Type 0)
     → IfErr answer (λ stop. (stop ≡ WriteFault) × X stop) → (before now : Count) → RoseOnce before now
     → EndFirst answer before now
-ends_counts (Ok played) X part before now told = told
-ends_counts (Err stop) X part before now told =
-    subst (λ (s : PlayStop). EndFirst (play_error s) before now) (sym part.0) told
+ends_counts (Ok played) X part before now reported = reported
+ends_counts (Err stop) X part before now reported =
+    subst (λ (s : PlayStop). EndFirst (play_error s) before now) (sym part.0) reported
 
 ends_first : (stop : PumpStop) (before now : Count) → pump_error stop ≢ pump_error pump.WriteFault
-    → TellsEndOf (pump_error stop) before now
+    → ReportsEndOf (pump_error stop) before now
     → EndFirst (play_error (play_stop stop)) before now
-ends_first pump.ReadFault before now other told = told
-ends_first pump.WriteFault before now other told = absurd (other refl)
-ends_first (pump.Torn unit) before now other told = told
-ends_first pump.TooLong before now other told = told
+ends_first pump.ReadFault before now other reported = reported
+ends_first pump.WriteFault before now other reported = absurd (other refl)
+ends_first (pump.Torn unit) before now other reported = reported
+ends_first pump.TooLong before now other reported = reported
 
 -- a call stopped before it read the whole input
 pub ends_unread : (stop : PumpStop) (answer : PlayStop) (before now : Count) → answer ≡ play_stop stop
-    → pump_error stop ≢ pump_error pump.WriteFault → TellsEndOf (pump_error stop) before now
+    → pump_error stop ≢ pump_error pump.WriteFault → ReportsEndOf (pump_error stop) before now
     → EndFirst (play_error answer) before now
-ends_unread stop answer before now is other told =
+ends_unread stop answer before now is other reported =
     subst (λ (s : PlayStop). EndFirst (play_error s) before now) (sym is)
-    (ends_first stop before now other told)
+    (ends_first stop before now other reported)
 
 -- a call that lists texts may have each stop of a pump
 stops_at_list : (stop : PumpStop) → IsListStop (play_stop stop)
@@ -106,13 +107,13 @@ viewed_stops blocks time bad = stops_view (nat_lt blocks time) blocks bad
 pub ends_texts : (s : LeadInTexts) (blocks : ℕ) (held held' : Option (List ℕ))
     (result : Result Played PlayStop) (before now : Count)
     → WritesTexts s blocks held held' result → RoseOnce before now → EndFirst result before now
-ends_texts s blocks held held' (Ok played) before now writes told = told
-ends_texts s blocks held held' (Err (Text fault)) before now writes told = told
-ends_texts s blocks held held' (Err WriteFault) before now writes told = told
-ends_texts s blocks held held' (Err ReadFault) before now writes told = absurd writes
-ends_texts s blocks held held' (Err (Torn block)) before now writes told = absurd writes
-ends_texts s blocks held held' (Err TooLong) before now writes told = absurd writes
-ends_texts s blocks held held' (Err (PastEnd past)) before now writes told = absurd writes
+ends_texts s blocks held held' (Ok played) before now writes reported = reported
+ends_texts s blocks held held' (Err (Text fault)) before now writes reported = reported
+ends_texts s blocks held held' (Err WriteFault) before now writes reported = reported
+ends_texts s blocks held held' (Err ReadFault) before now writes reported = absurd writes
+ends_texts s blocks held held' (Err (Torn block)) before now writes reported = absurd writes
+ends_texts s blocks held held' (Err TooLong) before now writes reported = absurd writes
+ends_texts s blocks held held' (Err (PastEnd past)) before now writes reported = absurd writes
 
 -- a call that writes texts does not stop with `PastEnd`
 pub stops_list : (s : LeadInTexts) (blocks : ℕ) (held held' : Option (List ℕ))

@@ -22,5 +22,5 @@ pub mod Checks
 pub mod TextLists
 pub mod OneText
 pub mod Ends
-pub mod Told
+pub mod Reported
 pub mod TextFaults

@@ -8,7 +8,7 @@ use Rattle.cdg_io.specs.declared.pumping.Pumped.{Pumped}
 use Rattle.cdg_io.specs.declared.pumping.PumpStop.{PumpStop}
 use Rattle.cdg_io.specs.declared.pumping.PumpStop.TheVariants as pump_stop
 use Rattle.cdg_io.proofs.Units.{whole_within}
-use Rattle.cdg_io.proofs.Streaming.{IsWhole, IsTold, bytes_of, streams_done, streams_stop}
+use Rattle.cdg_io.proofs.Streaming.{IsWhole, IsReported, bytes_of, streams_done, streams_stop}
 use Rattle.raw_subcode.specs.Channels.{unit_size}
 use Rattle.raw_subcode.specs.Sizes.{most_units}
 use Rattle.stream_stages.specs.Calls.{IsPlayed, blocks_played, in_turn}
@@ -39,11 +39,12 @@ units_in Raw n bytes whole = omega (arith, whole.fits, whole.rest)
 units_in Sector n bytes whole = omega (arith, whole.fits, whole.rest)
 units_in Cooked n bytes whole = omega (arith, whole.fits, whole.rest)
 
-pub told : (stop : PumpStop) → IsTold Torn WriteFault stop (play_stop stop)
-told pump_stop.ReadFault = record { fault_kept = λ e. cc; fault_only = λ e. cc; torn_only = λ n e. cc }
-told pump_stop.WriteFault = record { fault_kept = λ e. refl; fault_only = λ e. refl; torn_only = λ n e. cc }
-told (pump_stop.Torn unit) = record { fault_kept = λ e. cc; fault_only = λ e. cc; torn_only = λ n e. cc }
-told pump_stop.TooLong = record { fault_kept = λ e. cc; fault_only = λ e. cc; torn_only = λ n e. cc }
+pub reported : (stop : PumpStop) → IsReported Torn WriteFault stop (play_stop stop)
+reported pump_stop.ReadFault = record { fault_kept = λ e. cc; fault_only = λ e. cc; torn_only = λ n e. cc }
+reported pump_stop.WriteFault =
+    record { fault_kept = λ e. refl; fault_only = λ e. refl; torn_only = λ n e. cc }
+reported (pump_stop.Torn unit) = record { fault_kept = λ e. cc; fault_only = λ e. cc; torn_only = λ n e. cc }
+reported pump_stop.TooLong = record { fault_kept = λ e. cc; fault_only = λ e. cc; torn_only = λ n e. cc }
 
 module _ {S : Type 0} (writes : List ℕ → List ℕ → ℕ → Type 0) (form : Form) (lead_in : ℕ)
     (machine : Machine S) (bad_of : S → ℕ) (moved : Moved S) (taken : List ℕ) where
@@ -94,7 +95,7 @@ module _ {S : Type 0} (writes : List ℕ → List ℕ → ℕ → Type 0) (form 
       → Calls (Err (play_stop stop))
   plays_stop stop plays p =
       streams_stop (in_turn writes form lead_in) machine moved taken stop (play_stop stop) (unit_some form)
-      (told stop) (says_text plays) p
+      (reported stop) (says_text plays) p
 
   pub done_at : (size : ℕ) (pumped : Pumped) (played : Played) → unit_size form ≡ size
       → Plays writes form machine moved.state.before bad_of → RunsAt size (Ok pumped)

@@ -70,4 +70,4 @@ pub text_fault : (kept : List (Option (List ℕ))) (fault : TextFault)
     → (fault ≡ NoMemory) ⊎ (read_texts kept ≡ Err fault)
     → IfErr (read_texts kept) (λ why. ◌≡◌ {A = Result Texts TextFault} (Err fault) (Err why))
     → IsTextFault fault (read_texts kept)
-text_fault kept fault told refused = fault_at fault (read_texts kept) (judged kept) told refused
+text_fault kept fault reported refused = fault_at fault (read_texts kept) (judged kept) reported refused

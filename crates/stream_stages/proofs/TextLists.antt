@@ -205,10 +205,10 @@ pub listed_stop : (form : Form) (lead_in : ℕ) (stop : PumpStop) (answer : Play
     → answer ≡ play_stop stop
     → IfSome left (λ all. IsUnlessFault (Err stop) (answer_of (unit_size form) most_units (length all)))
     → IfSome left (λ all. IsListedBy (Err answer) form lead_in all)
-listed_stop form lead_in stop answer None is told = tt
-listed_stop form lead_in stop answer (Some all) is told =
+listed_stop form lead_in stop answer None is reported = tt
+listed_stop form lead_in stop answer (Some all) is reported =
     subst (λ (a : PlayStop). IsListedBy (Err a) form lead_in all) (sym is) (listed_at form lead_in stop all
-    (checked_stop (unit_size form) stop (play_stop stop) (Some all) refl told))
+    (checked_stop (unit_size form) stop (play_stop stop) (Some all) refl reported))
 
 whole_input : (form : Form) (pumped : Pumped) (all : List ℕ)
     → IsUnlessFault (Ok pumped) (answer_of (unit_size form) most_units (length all))

@@ -4,7 +4,7 @@
 -- for the units, and to the number of bad words or bad frames.
 use Rattle.std.specs.Prelude.{◌≡◌, ◌≢◌, ℕ, ◌-◌, ◌*◌, ◌/◌, ◌%◌, ◌<◌, ◌≤◌, ⊤, Bool, true, false, IsTrue, List, length, Result, Ok, Err}
 use Rattle.cdg_io.specs.Causes.{Count}
-use Rattle.cdg_io.specs.Reads.{ToldUnless}
+use Rattle.cdg_io.specs.Reads.{EndReportedUnless}
 use Rattle.cdg_io.specs.Streams.{Reading, WholeReading}
 use Rattle.raw_subcode.specs.Channels.{unit_size}
 use Rattle.raw_subcode.specs.Sizes.{most_units}
@@ -77,11 +77,11 @@ IsListStop stop = IsStreamStop stop
 
 -- A call that writes while it reads recorded the end of its input once, unless it stopped before the end.
 abbrev pub EndInTurn : Result Played PlayStop → Count → Count → Type 0
-EndInTurn = ToldUnless is_early_in_turn
+EndInTurn = EndReportedUnless is_early_in_turn
 
 -- A call that writes only after it read everything recorded the end of its input once, unless it stopped before the end.
 abbrev pub EndFirst : Result Played PlayStop → Count → Count → Type 0
-EndFirst = ToldUnless is_early
+EndFirst = EndReportedUnless is_early
 
 -- This is the result for an input of `len` bytes, in units of `size` bytes, if no read and no write fails.
 abbrev pub IsAnsweredBy : Result Played PlayStop → ℕ → ℕ → Type 0

@@ -1,7 +1,7 @@
 -- The input, the output and the result of a call that plays a whole stream.
 use Rattle.std.specs.Prelude.{◌≡◌, ◌≢◌, ℕ, Bool, List, length, Result, IfErr, IfSome}
 use Rattle.cdg_io.specs.Change.{Passed, passed}
-use Rattle.cdg_io.specs.Reads.{ToldUnless}
+use Rattle.cdg_io.specs.Reads.{EndReportedUnless}
 use Rattle.cdg_io.specs.declared.ends.Sink.{Ghosts as Sink}
 use Rattle.cdg_io.specs.declared.ends.Source.{Ghosts as Source}
 use Rattle.cdg_io.specs.Streams.{Streams, WritesAtEnd}
@@ -12,7 +12,7 @@ use Rattle.raw_subcode.specs.declared.form.Form.{Form}
 use Rattle.stream_stages.specs.Calls.{IsAnsweredBy, IsListStop, IsMomentStop, IsStreamStop, at_end, in_turn, is_early, is_early_in_turn}
 use Rattle.stream_stages.specs.Check.{IsCheckListed}
 use Rattle.stream_stages.specs.Convert.{Converts}
-use Rattle.stream_stages.specs.Faults.{TellsStops}
+use Rattle.stream_stages.specs.Faults.{ReportsStops}
 use Rattle.stream_stages.specs.Screen.{IsShownBy, Moment, Shows}
 use Rattle.stream_stages.specs.TextListing.{IsListedBy, ListsTexts}
 use Rattle.stream_stages.specs.declared.played.Played.{Played}
@@ -78,10 +78,10 @@ pub record Plays {S K : Type 0} (call : StreamCall) (source : Source S) (sink : 
   pub stops : IfErr result call.may_stop
   -- if nothing failed, the result is that of the whole input
   pub answer : IfSome (source.left before.0) (λ all. call.answers result all)
-  pub faults : TellsStops (source.faults before.0) (source.faults after.0) (sink.faults before.1)
+  pub faults : ReportsStops (source.faults before.0) (source.faults after.0) (sink.faults before.1)
       (sink.faults after.1) result
   -- the end of the input was recorded once, unless the call stopped before it
-  pub ended : ToldUnless call.is_early result (source.ends before.0) (source.ends after.0)
+  pub ended : EndReportedUnless call.is_early result (source.ends before.0) (source.ends after.0)
 
 -- If a call stops for any reason other than a failed write, the output is unchanged.
 abbrev pub LeavesUnwritten : {K : Type 0} → K → K → Result Played PlayStop → Type 0

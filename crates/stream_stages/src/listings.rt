@@ -3,7 +3,7 @@ ghost use Rattle.std.specs.Prelude.{◌≡◌, ◌≢◌, ◌≤◌, IfOk, IsOk,
 ghost use Rattle.disc_time.specs.Counts.{most_lead_in};
 ghost use Rattle.raw_subcode.specs.declared.form.Form.{Form};
 ghost use Rattle.stream_stages.specs.Plays.{LeavesUnwritten, Plays, PlaysThenWrites, frame_listing, text_listing};
-ghost use Rattle.cdg_io.specs.Causes.{TellsFault};
+ghost use Rattle.cdg_io.specs.Causes.{ReportsFault};
 ghost use Rattle.cdtext_packs.specs.Reading.{read_texts};
 ghost use Rattle.cdtext_packs.specs.TextSteps.{fresh_texts};
 ghost use Rattle.stream_stages.specs.Watch.{WritesTexts};
@@ -107,7 +107,7 @@ impl TextLister {
     ) -> Result<Played, PlayStop>
         ensures writes { WritesTexts self.now.texts.blocks blocks (K.held out.old) (K.held out.new) result }
         ensures untouched { LeavesUnwritten out.old out.new result }
-        ensures write_fault { TellsFault PlayStop.WriteFault
+        ensures write_fault { ReportsFault PlayStop.WriteFault
             (K.faults out.old) (K.faults out.new) result }
     {
         let map = match self.texts.blocks.reader.finish(alloc) {
@@ -129,7 +129,7 @@ impl TextLister {
         requires { read_texts self.now.texts.blocks.reader ≡ Ok map.now }
         ensures writes { WritesTexts self.now.texts.blocks blocks (K.held out.old) (K.held out.new) result }
         ensures untouched { LeavesUnwritten out.old out.new result }
-        ensures write_fault { TellsFault PlayStop.WriteFault
+        ensures write_fault { ReportsFault PlayStop.WriteFault
             (K.faults out.old) (K.faults out.new) result }
     {
         let texts = &self.texts.blocks;

@@ -1,7 +1,7 @@
 // A whole input through a stage, and the result of the call that plays it.
 ghost use Rattle.std.specs.Prelude.{◌≡◌, List, ℕ};
 ghost use Rattle.stream_stages.specs.Watch.{play_stop, Watches, on_units};
-ghost use Rattle.cdg_io.specs.Causes.{TellsFault};
+ghost use Rattle.cdg_io.specs.Causes.{ReportsFault};
 ghost use Rattle.cdg_io.specs.Change.{fed, moved};
 ghost use Rattle.cdg_io.specs.Pump.{Pumps};
 ghost use Rattle.cdg_io.specs.Reads.{ReadsUnits};
@@ -74,7 +74,7 @@ pub fn pump_blocks<S: Source, G: Stage<Item = [u8; BLOCK_BYTES], Out = Piece>, K
         (source.new, stages.new.blocks, out.new)) result taken }
     ensures reads { ReadsUnits S.Source (unit_size form) most_units source.old
         source.new result }
-    ensures write_fault { TellsFault PumpStop.WriteFault (K.faults out.old) (K.faults out.new) result }
+    ensures write_fault { ReportsFault PumpStop.WriteFault (K.faults out.old) (K.faults out.new) result }
 {
     match form {
         Form::Sector => pump(source, MOST_UNITS, stages, out),

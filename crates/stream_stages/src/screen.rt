@@ -1,7 +1,7 @@
 // The screen at a moment of a stream.
 ghost use Rattle.std.specs.Prelude.{◌≡◌, ◌≤◌, ◌-◌, List, ℕ, length, IfSome, IfOk, IfErr, Err};
 ghost use Rattle.disc_time.specs.Counts.{last_block, most_lead_in};
-ghost use Rattle.cdg_io.specs.Causes.{TellsFault};
+ghost use Rattle.cdg_io.specs.Causes.{ReportsFault};
 ghost use Rattle.cdg_io.specs.Change.{change};
 ghost use Rattle.raw_subcode.specs.Channels.{unit_size};
 ghost use Rattle.rw_interleave.specs.Interleave.{whole_packs};
@@ -126,7 +126,7 @@ impl Viewer {
         ensures stops { IfErr result IsMomentStop }
         ensures answer { IfSome (S.left source.old) (λ all.
             IsShownBy result lead_in at (unit_size form) (length all)) }
-        ensures read_fault { TellsFault PlayStop.ReadFault
+        ensures read_fault { ReportsFault PlayStop.ReadFault
             (S.faults source.old) (S.faults source.new) result }
         ensures ended { EndFirst result (S.ends source.old) (S.ends source.new) }
     {

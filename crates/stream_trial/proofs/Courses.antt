@@ -123,9 +123,9 @@ pub knows_more : (script : List Drawing) (seed count : ℕ) (course : Course)
     → Knows script seed count course block filled bytes
     → Knows script seed count course (take filled block ++ (part' ++ post_of filled k block))
     (filled + length part) bytes'
-knows_more script seed count course block bytes part part' bytes' filled k fits copied told many known =
+knows_more script seed count course block bytes part part' bytes' filled k fits copied reported many known =
     let b = course.blocks in
-    let size : length bytes' ≡ length bytes + length part = ap (λ (l : List ℕ). length l) told
+    let size : length bytes' ≡ length bytes + length part = ap (λ (l : List ℕ). length l) reported
     ∙ length-append bytes part in
     let within : 96 * b ≤ length bytes = omega (arith, known.size) in
     let written : take filled block ++ (part' ++ post_of filled k block)
@@ -140,10 +140,10 @@ knows_more script seed count course block bytes part part' bytes' filled k fits 
       begun = ap (take (filled + length part)) written
           ∙ at_hand block part (post_of filled k block) filled inside
           ∙ ap (λ (l : List ℕ). l ++ part) known.begun ∙ sym (drop-append-le (96 * b) bytes part within)
-          ∙ ap (drop (96 * b)) (sym told);
+          ∙ ap (drop (96 * b)) (sym reported);
       gone_over = λ more.
           subst (λ (l : List ℕ). HasGoneOver script seed l course)
-          (sym (append_assoc bytes part more) ∙ ap (λ (l : List ℕ). l ++ more) (sym told))
+          (sym (append_assoc bytes part more) ∙ ap (λ (l : List ℕ). l ++ more) (sym reported))
           (known.gone_over (part ++ more));
     }
 
@@ -188,12 +188,14 @@ pub knows_whole : (script : List Drawing) (seed count : ℕ) (course course' : C
     → HasGoneOver script seed all course → HasGoneOver script seed all course')
     → Knows script seed count course block filled bytes
     → Knows script seed count course' (take filled block ++ (part' ++ post_of filled k block)) 0 bytes'
-knows_whole script seed count course course' block bytes part part' bytes' filled k fits copied told many end
+knows_whole script seed count course course' block bytes part part' bytes' filled k fits copied reported many
+    end
     next steady goes known =
     let whole = take filled block ++ (part' ++ post_of filled k block) in
     knows_next script seed count course course' whole bytes' next steady goes
     (subst (λ n. Knows script seed count course whole n bytes') end
-    (knows_more script seed count course block bytes part part' bytes' filled k fits copied told many known))
+    (knows_more script seed count course block bytes part part' bytes' filled k fits copied reported many
+    known))
 
 -- the findings for the whole blocks
 pub knows_found : ChannelsStay → (script : List Drawing) → AreTimesInOrder script

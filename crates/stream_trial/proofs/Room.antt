@@ -51,9 +51,9 @@ room_left seed count seed' count' before after bytes n blocks filled some none w
     omega (arith, all, empty, part, within, size, few, known, full)
 
 -- an answer that is neither a success nor a failed write is `NoMemory`
-pub wants_memory : (answer : Result (Unit {0}) AuthorStop)
+pub allocations_counted : (answer : Result (Unit {0}) AuthorStop)
     → IfErr answer (λ stop. (stop ≡ NoMemory) ⊎ (stop ≡ WriteFault))
     → ¬ (answer ≡ Err WriteFault) → IfErr answer (λ stop. stop ≡ NoMemory)
-wants_memory (Ok done) stops never = tt
-wants_memory (Err stop) (inl short) never = short
-wants_memory (Err stop) (inr failed) never = absurd (never (ap (λ s. Err s) failed))
+allocations_counted (Ok done) stops never = tt
+allocations_counted (Err stop) (inl short) never = short
+allocations_counted (Err stop) (inr failed) never = absurd (never (ap (λ s. Err s) failed))

@@ -21,7 +21,7 @@ use Rattle.stream_trial.specs.Differing.{differing}
 use Rattle.stream_trial.specs.TrialLines.{input_lines, output_lines}
 use Rattle.stream_trial.specs.TrialSheet.{trial_text, trial_sheet}
 use Rattle.stream_trial.specs.Trial.{trial_audio, trial_blocks, all_changes, IsTrial}
-use Rattle.stream_trial.specs.Told.{told}
+use Rattle.stream_trial.specs.ReportLines.{report_lines}
 use Rattle.stream_trial.specs.Replay.{IsDamagedSchedule, IsPlayedOut}
 use Rattle.stream_trial.specs.declared.lines.Report.{Report}
 use Rattle.stream_trial.specs.declared.run.Found.{Found}
@@ -194,7 +194,7 @@ pub is_trial : SheetIsRead → ScriptsAreRead → ScriptsHavePictures
     → report.seed ≡ seed → report.pictures ≡ count → report.blocks ≡ trial_blocks count
     → report.packs ≡ whole_packs (trial_blocks count) → report.changes ≡ all_changes script
     → report.one ≡ found.one → report.two ≡ found.two → report.bad ≡ found.bad → report.equal ≡ found.equal
-    → IsTrial seed count (told report)
+    → IsTrial seed count (report_lines report)
 is_trial read reads have seed count script bytes packs found report few script_is authored played e_seed
     e_pictures e_blocks e_packs e_changes e_one e_two e_bad e_equal =
     let number : ℕ = whole_packs (trial_blocks count) in
@@ -219,13 +219,13 @@ is_trial read reads have seed count script bytes packs found report few script_i
 -- ---- the lines, written or not
 
 pub put_text : (seed count : ℕ) (text : List ℕ) (report : Report) (left left' : Option (List ℕ))
-    → text ≡ told report → IsTrial seed count (told report) → Appends left left' text
+    → text ≡ report_lines report → IsTrial seed count (report_lines report) → Appends left left' text
     → (x : List ℕ) × IsTrial seed count x × Appends left left' x
 put_text seed count text report left left' is trial put =
     (text, subst (λ (l : List ℕ). IsTrial seed count l) (sym is) trial, put)
 
 pub put_part : (seed count : ℕ) (text : List ℕ) (report : Report) (left left' : Option (List ℕ))
-    → text ≡ told report → IsTrial seed count (told report) → AppendsPrefix left left' text
+    → text ≡ report_lines report → IsTrial seed count (report_lines report) → AppendsPrefix left left' text
     → (x : List ℕ) × IsTrial seed count x × AppendsPrefix left left' x
 put_part seed count text report left left' is trial put =
     (text, subst (λ (l : List ℕ). IsTrial seed count l) (sym is) trial, put)

@@ -3,5 +3,5 @@ pub mod TrialLines
 pub mod Trial
 pub mod Replay
 pub mod Course
-pub mod Told
+pub mod ReportLines
 pub mod TrialSheet

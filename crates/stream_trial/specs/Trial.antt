@@ -2,7 +2,7 @@
 use Rattle.std.specs.Prelude.{◌≡◌, ℕ, ◌+◌, ◌*◌, List, ◌++◌, length, sum_by, Result, Ok, Err, OnOk}
 use Rattle.std.specs.Io.KnownBytes.{Appends}
 use Rattle.bit_lists.specs.Counting.{below}
-use Rattle.cdg_io.specs.Causes.{TellsFault}
+use Rattle.cdg_io.specs.Causes.{ReportsFault}
 use Rattle.cdg_io.specs.Change.{Bytes}
 use Rattle.cdg_io.specs.Moves.{AppendsPrefix}
 use Rattle.disc_time.specs.Counts.{pause_blocks}
@@ -58,7 +58,7 @@ pub record WritesTrial {T K : Type 0} (held : K → Bytes) (faults : K → ℕ) 
   -- the lines were written
   pub lines : OnOk result
       ((text : List ℕ) × IsTrial seed count text × Appends (held before) (held after) text)
-  pub write_fault : TellsFault WriteFault (faults before) (faults after) result
+  pub write_fault : ReportsFault WriteFault (faults before) (faults after) result
   -- a write failed, and a prefix of them was written
   pub part : result ≡ Err WriteFault
       → (text : List ℕ) × IsTrial seed count text × AppendsPrefix (held before) (held after) text

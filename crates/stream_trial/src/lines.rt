@@ -1,7 +1,7 @@
 // The nine lines of a trial.
 ghost use Rattle.std.specs.Prelude.{◌≡◌, ◌≤◌, ◌+◌, ◌++◌, length};
 ghost use Rattle.stream_trial.specs.TrialLines.{trial_count_line, input_lines, output_lines};
-ghost use Rattle.stream_trial.specs.Told.{told};
+ghost use Rattle.stream_trial.specs.ReportLines.{report_lines};
 
 use arrayvec::ArrayString;
 use itoa::Buffer;
@@ -29,7 +29,7 @@ pub(crate) struct Report {
 impl Report {
     /// The nine lines.
     pub(crate) fn lines(&self) -> Lines
-        ensures { result.bytes ≡ told self.now }
+        ensures { result.bytes ≡ report_lines self.now }
     {
         let mut text = Lines::new();
         self.push_input(&mut text);

@@ -1,6 +1,6 @@
 // The stream of a trial, played as it is written.
 ghost use Rattle.std.specs.Prelude.{◌≡◌, ◌≤◌, ℕ, List, [], OnOk, IfOk, IfErr};
-ghost use Rattle.cdg_io.specs.Causes.{HasCause, TellsFault};
+ghost use Rattle.cdg_io.specs.Causes.{HasCause, ReportsFault};
 ghost use Rattle.cdg_workload.specs.Script.{most_generated};
 ghost use Rattle.cdg_workload.specs.Scratches.{scratched};
 ghost use Rattle.cdg_workload.specs.Generated.{generated_drawings};
@@ -106,7 +106,7 @@ fn author_run(
         packs) }
     ensures of { OnOk result ((run.new.seed ≡ run.old.seed) × (run.new.pictures ≡ run.old.pictures)) }
     ensures stop { IfErr result (λ stop. stop ≡ AuthorStop.NoMemory) }
-    ensures wants { TellsFault AuthorStop.NoMemory heap.old heap.new result }
+    ensures allocations { ReportsFault AuthorStop.NoMemory heap.old heap.new result }
 {
     // Laws: the author refuses neither the sheet nor the script, and a failed write leaves a prefix of the
     // stream.

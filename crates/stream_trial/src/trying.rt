@@ -1,9 +1,9 @@
 // A whole trial of a seed, from its script to the lines that are written.
 ghost use Rattle.std.specs.Prelude.{◌≡◌, ◌≤◌, Err, IfOk, IfErr};
 ghost use Rattle.cdg_workload.specs.Script.{most_generated};
-ghost use Rattle.cdg_io.specs.Causes.{HasCause, TellsFault};
+ghost use Rattle.cdg_io.specs.Causes.{HasCause, ReportsFault};
 ghost use Rattle.stream_trial.specs.Trial.{IsTrial, WritesTrial};
-ghost use Rattle.stream_trial.specs.Told.{told};
+ghost use Rattle.stream_trial.specs.ReportLines.{report_lines};
 ghost use Rattle.stream_trial.specs.declared.trying.TrialStop.TheVariants.{NoMemory};
 
 use crate::generating::parse_script;
@@ -67,7 +67,7 @@ pub fn trial<K: Sink>(
     requires { (1 ≤ pictures) × (pictures ≤ most_generated) }
     ensures written { WritesTrial K.held K.faults seed pictures out.old out.new result }
     // The answer is `NoMemory` exactly if a request for memory failed.
-    ensures wants { TellsFault TrialStop.NoMemory heap.old heap.new result }
+    ensures allocations { ReportsFault TrialStop.NoMemory heap.old heap.new result }
 {
     let report = make_report(heap, seed, pictures)?;
     let lines = report.lines();
@@ -80,7 +80,7 @@ pub fn trial<K: Sink>(
 // The report of a trial.
 fn make_report(heap: &mut Heap, seed: u64, pictures: u32) -> Result<Report, TrialStop>
     requires { (1 ≤ pictures) × (pictures ≤ most_generated) }
-    ensures report { IfOk result (λ report. IsTrial seed pictures (told report)) }
+    ensures report { IfOk result (λ report. IsTrial seed pictures (report_lines report)) }
     ensures err { IfErr result (λ stop. stop ≡ NoMemory) }
     ensures counted { HasCause heap.old heap.new result }
 {

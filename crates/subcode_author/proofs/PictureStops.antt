@@ -31,12 +31,12 @@ LateCannotBeReady = (script : List Drawing) (k need free : ℕ) → AreTimesInOr
     → AreColoursInRange script → ((k x y : ℕ) → picture_pixel script k x y < 16) → IsLate script k need free
     → CannotBeReady script k need free
 
-pub late_told : LateCannotBeReady
+pub late_reported : LateCannotBeReady
     → (sheet : CueSheet) (script : List Drawing) (lead_in audio : ℕ) (stop : AuthorStop)
     → AreTimesInOrder script
     → AreColoursInRange script → ((k x y : ℕ) → picture_pixel script k x y < 16)
     → IsAuthorStop sheet script lead_in audio stop → (picture need free : ℕ) → stop ≡ Late picture need free
     → CannotBeReady script picture need free
-late_told law sheet script lead_in audio stop order ranges pixels is picture need free told =
+late_reported law sheet script lead_in audio stop order ranges pixels is picture need free reported =
     law script picture need free order ranges pixels
-    (subst (IsAuthorStop sheet script lead_in audio) told is).2
+    (subst (IsAuthorStop sheet script lead_in audio) reported is).2

@@ -53,36 +53,36 @@ module _ (needs : NeedsAreKnown) (sheet : CueSheet) (script : List Drawing) (lea
   earlier : (stop : AuthorStop) → IsAuthorStop sheet script lead_in audio stop → stop ≢ NoMemory → (i : ℕ)
       → i < stage stop
       → Passes i
-  earlier (LengthShort need) h told i lt = absurd (omega (arith, lt))
-  earlier (DiscTooLong blocks) h told zero lt = h.0
-  earlier (DiscTooLong blocks) h told (suc i) lt = absurd (omega (arith, lt))
-  earlier (PastEnd blocks) h told zero lt = h.0.0
-  earlier (PastEnd blocks) h told (suc zero) lt = h.0.1
-  earlier (PastEnd blocks) h told (suc (suc i)) lt = absurd (omega (arith, lt))
-  earlier (TextTooLong packs) h told i lt = disc_passes h.0 i lt
-  earlier (LeadInShort need) h told i lt = elim (cases_lt i 3) [
+  earlier (LengthShort need) h reported i lt = absurd (omega (arith, lt))
+  earlier (DiscTooLong blocks) h reported zero lt = h.0
+  earlier (DiscTooLong blocks) h reported (suc i) lt = absurd (omega (arith, lt))
+  earlier (PastEnd blocks) h reported zero lt = h.0.0
+  earlier (PastEnd blocks) h reported (suc zero) lt = h.0.1
+  earlier (PastEnd blocks) h reported (suc (suc i)) lt = absurd (omega (arith, lt))
+  earlier (TextTooLong packs) h reported i lt = disc_passes h.0 i lt
+  earlier (LeadInShort need) h reported i lt = elim (cases_lt i 3) [
     | inl less ↦ disc_passes h.0 i less
     | inr from ↦ (let last : 3 ≡ i = omega (arith, lt, from) in subst Passes last (λ some. h.1.1))
   ]
-  earlier (Late picture need free) h told i lt = room_passes h.0 h.1 i lt
-  earlier WriteFault h told i lt = elim (cases_lt i 5) [
+  earlier (Late picture need free) h reported i lt = room_passes h.0 h.1 i lt
+  earlier WriteFault h reported i lt = elim (cases_lt i 5) [
     | inl less ↦ room_passes h.disc h.room i less
     | inr from ↦ (let last : 5 ≡ i = omega (arith, lt, from) in subst Passes last h.ready)
   ]
-  earlier NoMemory h told i lt = absurd (told refl)
+  earlier NoMemory h reported i lt = absurd (reported refl)
 
   -- and its own stage does not
   fails : (stop : AuthorStop) → IsAuthorStop sheet script lead_in audio stop → stop ≢ NoMemory
       → ¬ Passes (stage stop)
-  fails (LengthShort need) h told = λ good. omega (arith, h.1, good)
-  fails (DiscTooLong blocks) h told = λ good. omega (arith, h.1, h.2, good)
-  fails (PastEnd blocks) h told = λ good. good (subst (IsPastEnd script) h.1 h.2)
-  fails (TextTooLong packs) h told = λ good. omega (arith, h.1.1, h.1.2, good h.1.0)
-  fails (LeadInShort need) h told = λ good. omega (arith, h.1.2, h.1.3, good h.1.0)
-  fails (Late picture need free) h told =
+  fails (LengthShort need) h reported = λ good. omega (arith, h.1, good)
+  fails (DiscTooLong blocks) h reported = λ good. omega (arith, h.1, h.2, good)
+  fails (PastEnd blocks) h reported = λ good. good (subst (IsPastEnd script) h.1 h.2)
+  fails (TextTooLong packs) h reported = λ good. omega (arith, h.1.1, h.1.2, good h.1.0)
+  fails (LeadInShort need) h reported = λ good. omega (arith, h.1.2, h.1.3, good h.1.0)
+  fails (Late picture need free) h reported =
       λ good. ready_not_late script picture need free (good picture h.2.picture) h.2
-  fails WriteFault h told = λ good. good
-  fails NoMemory h told = absurd (told refl)
+  fails WriteFault h reported = λ good. good
+  fails NoMemory h reported = absurd (reported refl)
 
   one_picture : (k need free k' need' free' : ℕ) → IsLate script k need free → IsLate script k' need' free'
       → Late k need free ≡ Late k' need' free'
@@ -117,10 +117,10 @@ module _ (needs : NeedsAreKnown) (sheet : CueSheet) (script : List Drawing) (lea
   pub one_reason : (stop other : AuthorStop) → IsAuthorStop sheet script lead_in audio stop
       → IsAuthorStop sheet script lead_in audio other → stop ≢ NoMemory → other ≢ NoMemory
       → stop ≡ other
-  one_reason stop other h h' told told' = elim (cases_lt (stage stop) (stage other)) [
-    | inl less ↦ absurd (fails stop h told (earlier other h' told' (stage stop) less))
+  one_reason stop other h h' reported reported' = elim (cases_lt (stage stop) (stage other)) [
+    | inl less ↦ absurd (fails stop h reported (earlier other h' reported' (stage stop) less))
     | inr from ↦ elim (cases_lt (stage other) (stage stop)) [
-      | inl less ↦ absurd (fails other h' told' (earlier stop h told (stage other) less))
+      | inl less ↦ absurd (fails other h' reported' (earlier stop h reported (stage other) less))
       | inr to ↦ same stop other (omega (arith, from, to)) h h'
     ]
   ]

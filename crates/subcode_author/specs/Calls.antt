@@ -1,7 +1,7 @@
 -- The results of the calls that write an authored stream, and the bytes that they write.
 use Rattle.std.specs.Prelude.{◌≡◌, ◌≢◌, ◌<◌, ℕ, List, IfErr, OnOk, Err, Result}
 use Rattle.std.specs.Io.KnownBytes.{Appends}
-use Rattle.cdg_io.specs.Causes.{TellsFault}
+use Rattle.cdg_io.specs.Causes.{ReportsFault}
 use Rattle.cdg_io.specs.Change.{Bytes}
 use Rattle.picture_script.specs.Script.{pictures}
 use Rattle.pack_schedule.specs.Brings.{CannotBeReady, IsChange}
@@ -20,7 +20,7 @@ pub record WritesDisc {T K : Type 0} (held : K → Bytes) (faults : K → ℕ) (
       × Appends (held before) (held after) bytes)
   -- no stream was written: then nothing was written, unless a write failed
   pub untouched : IfErr result (λ stop. stop ≢ WriteFault → after ≡ before)
-  pub write_fault : TellsFault WriteFault (faults before) (faults after) result
+  pub write_fault : ReportsFault WriteFault (faults before) (faults after) result
   -- a write failed, and a prefix of the lead-in and of program blocks with packs of the script was written
   pub part : result ≡ Err WriteFault
       → (n : ℕ) × (packs : List (List ℕ)) × PutsScriptPart disc (held before) (held after) n packs

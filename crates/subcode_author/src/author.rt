@@ -1,7 +1,7 @@
 // Writing the stream of a sheet and a script.
 ghost use Rattle.std.specs.Prelude.{◌≡◌, ◌≤◌, ◌⊎◌, IfErr, ◌<◌, List, ℕ, IfOk, OnOk, false, slice_index_or, []};
 ghost use Rattle.disc_time.specs.Counts.{most_lead_in, most_program, time_count};
-ghost use Rattle.cdg_io.specs.Causes.{TellsFault, HasCause};
+ghost use Rattle.cdg_io.specs.Causes.{ReportsFault, HasCause};
 ghost use Rattle.pack_schedule.specs.Survey.{IsSurvey, IsWithin, IsRoomFor, IsPastEnd};
 ghost use Rattle.toc_model.specs.Places.{program_blocks, audio_need, layout_of};
 ghost use Rattle.subcode_author.specs.Authored.{disc_of};
@@ -20,7 +20,7 @@ use cdtext_packs::TextPack;
 use cue_sheet::Sheet;
 use pack_schedule::{
     Survey, SurveyRoom, Weaver, is_past_end, needs_are_fewest, packs_are_a_schedule,
-    plans_tell_what_a_survey_tells, survey_in,
+    plans_report_what_a_survey_reports, survey_in,
 };
 use picture_script::Script;
 use raw_subcode::SLOTS_A_BLOCK;
@@ -42,7 +42,7 @@ pub(crate) fn plan_script(
     ensures planned { IfOk result (IsSurvey script.now) }
     ensures err { IfErr result (IsPictureStop script.now) }
     // The error is `NoMemory` exactly if a request for memory failed, so never for a late picture.
-    ensures wants { TellsFault AuthorStop.NoMemory heap.old heap.new result }
+    ensures allocations { ReportsFault AuthorStop.NoMemory heap.old heap.new result }
 {
     let pictures = script.pictures();
     let room = heap.asked(|alloc| SurveyRoom::start(alloc, pictures))?;
@@ -150,7 +150,7 @@ pub fn accept_disc(
 
 /// A law: if nothing is refused before planning, the rows of a plan determine the result of `author_stream`: it refuses
 /// the disc at the first late row, and accepts it if no row is late.
-pub fn plans_tell_what_an_author_tells()
+pub fn plans_report_what_an_author_reports()
     ensures late { (sheet : CueSheet) (script : List Drawing) (lead_in audio k : ℕ) (rows : List PlanRow)
         → HoldsPictures sheet script audio → HasRoom sheet lead_in → ArePlanRows script rows
         → k < pictures script → IsFirstLate rows k
@@ -161,7 +161,7 @@ pub fn plans_tell_what_an_author_tells()
         → ((k : ℕ) → k < pictures script → (slice_index_or rows k no_row).late ≡ false)
         → IsAccepted sheet script lead_in audio }
 {
-    plans_tell_what_a_survey_tells();
+    plans_report_what_a_survey_reports();
 }
 
 /// The packs of a script as the source of a stream.
@@ -253,7 +253,7 @@ pub fn author_in<K: Sink>(
     ensures written { WritesDisc K.held K.faults (disc_of sheet.now script.now lead_in length) out.old out.new
         result }
     // The error is `NoMemory` exactly if a request for memory failed.
-    ensures wants { TellsFault AuthorStop.NoMemory heap.old heap.new result }
+    ensures allocations { ReportsFault AuthorStop.NoMemory heap.old heap.new result }
 {
     // A law: a late picture cannot be ready.
     needs_are_fewest();
@@ -287,7 +287,7 @@ pub fn author_planned<K: Sink>(
     ensures written { WritesDisc K.held K.faults (disc_of sheet.now script.now lead_in length) out.old out.new
         result }
     // The error is `NoMemory` exactly if a request for memory failed.
-    ensures wants { TellsFault AuthorStop.NoMemory heap.old heap.new result }
+    ensures allocations { ReportsFault AuthorStop.NoMemory heap.old heap.new result }
 {
     packs_are_a_schedule();
     // Laws: planned packs are a schedule, and the pictures of a script are in order and have sixteen colours.

@@ -1,6 +1,6 @@
 // The heap: the allocator and the number of failed requests. Only `asked` and `asked_with` request memory and count.
 ghost use Rattle.std.specs.Prelude.{◌≡◌, ◌≢◌, ◌≤◌, ◌↔◌, ℕ, [], length, IsTrue, IfErr, IfOk, Ok};
-ghost use Rattle.cdg_io.specs.Causes.{Rose, TellsFault};
+ghost use Rattle.cdg_io.specs.Causes.{Rose, ReportsFault};
 ghost use Rattle.cue_sheet.specs.Answers.{IsCueAnswer};
 ghost use Rattle.cue_sheet.specs.Grammar.{read_cue};
 ghost use Rattle.picture_script.specs.ScriptGrammar.{read_script};
@@ -102,7 +102,7 @@ impl Heap {
     ) -> Result<T, E>
         requires { F.IsAlwaysCallable call }
         ensures answer { (alloc : _) × F.post call alloc result }
-        ensures counted { TellsFault E.no_memory self.old self.new result }
+        ensures counted { ReportsFault E.no_memory self.old self.new result }
     {
         let answer = call(self.alloc);
         if let Err(stop) = &answer {
@@ -121,7 +121,7 @@ impl Heap {
     ) -> Result<T, E>
         requires { F.IsAlwaysCallable call }
         ensures answer { ReturnsWith F.FnOnce call first.old second.old result first.new second.new }
-        ensures counted { TellsFault E.no_memory self.old self.new result }
+        ensures counted { ReportsFault E.no_memory self.old self.new result }
     {
         let answer = call(self.alloc, first, second);
         if let Err(stop) = &answer {
@@ -134,7 +134,7 @@ impl Heap {
     pub fn sheet(&mut self, text: &[u8]) -> Result<Sheet, CueStop>
         requires { length text.now ≤ most_text_bytes }
         ensures read { IsCueAnswer (read_cue text.now) result }
-        ensures wants { TellsFault sheet.NoMemory self.old self.new result }
+        ensures allocations { ReportsFault sheet.NoMemory self.old self.new result }
     {
         self.asked(|alloc| Sheet::parse(alloc, text))
     }
@@ -144,7 +144,7 @@ impl Heap {
         requires { length text.now ≤ most_text_bytes }
         ensures ok { IfOk result (λ script. read_script text.now ≡ Ok script) }
         ensures err { IfErr result (StopsAt (read_script text.now)) }
-        ensures wants { TellsFault script.NoMemory self.old self.new result }
+        ensures allocations { ReportsFault script.NoMemory self.old self.new result }
     {
         self.asked(|alloc| Script::parse(alloc, text))
     }

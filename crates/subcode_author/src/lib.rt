@@ -7,7 +7,7 @@ mod laws;
 mod stops;
 
 pub use author::{
-    accept_disc, author_in, author_planned, author_stream, plans_tell_what_an_author_tells,
+    accept_disc, author_in, author_planned, author_stream, plans_report_what_an_author_reports,
 };
 pub use heap::{Heap, MemoryStop};
 pub use laws::{

@@ -8,7 +8,7 @@ use Rattle.cdg_instructions.specs.Instruction.{IsTilePixels}
 use Rattle.cdg_instructions.specs.Drawing.{Turns, IsLeast}
 use Rattle.cdg_instructions.specs.declared.instr.Instr.{Instr}
 use Rattle.tile_author.specs.Plan.{basis, delta, are_equal, steps, weight, plan, planned}
-use Rattle.tile_author.proofs.Needed.{length-delta, delta_at, equal_tells}
+use Rattle.tile_author.proofs.Needed.{length-delta, delta_at, equal_decides}
 use Rattle.tile_author.proofs.Shortest.{delta-tile, plan_equal, plan_draws, plan_combines, good_plan, least}
 use Rattle.tile_author.proofs.OneColour.{least_from_colour, least_same}
 
@@ -126,7 +126,7 @@ pub light_is : (row column : ℕ) (old new : List ℕ) (instr : Instr) → lengt
     → old ≢ new → 1 ≡ weight new → instr ≡ planned true row column new 0
     → plan row column old new ≡ instr ∷ []
 light_is row column old new instr old_size new_size other light is =
-    elim (equal_tells old new old_size new_size) [
+    elim (equal_decides old new old_size new_size) [
       | inl same ↦ absurd (other same.1)
       | inr differ ↦
           sym (list_draws_one row column old new (map (planned true row column new) (below (weight new)))

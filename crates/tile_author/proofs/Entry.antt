@@ -12,7 +12,7 @@ use Rattle.tile_author.specs.Plan.{is_combination, selection, combination, basis
 use Rattle.tile_author.specs.Table.{entry}
 use Rattle.tile_author.proofs.Combine.{twice}
 use Rattle.tile_author.proofs.Exchange.{Spans-same, Spans-sum}
-use Rattle.tile_author.proofs.BasisLaws.{spans_tells, tested, untested, spanned_test, unspanned_test, Spans-snoc, Spans-more, Spans-last, Free-snoc, spans_difference, basis-free}
+use Rattle.tile_author.proofs.BasisLaws.{spans_decides, tested, untested, spanned_test, unspanned_test, Spans-snoc, Spans-more, Spans-last, Free-snoc, spans_difference, basis-free}
 use Rattle.tile_author.proofs.Works.{partial, partial-first, partial-selection, selection_in, selection_out}
 
 selection-empty : (v : ℕ) → selection [] v ≡ 0
@@ -23,7 +23,7 @@ pub selection-lt : (ms : List ℕ) (v : ℕ) → selection ms v < 2 ^ length ms
 selection-lt [] v = omega (arith, selection-empty v)
 selection-lt (m ∷ ms) v =
     let double : 2 ^ suc (length ms) ≡ 2 * 2 ^ length ms = omega arith in
-    elim (spans_tells ms v) [
+    elim (spans_decides ms v) [
       | inl holds ↦ (let h = selection-lt ms v in omega (arith, selection_in m ms v holds.0))
       | inr fails ↦ (let h = selection-lt ms (bit_xor m v) in omega (arith, selection_out m ms v fails.0))
     ]
@@ -34,9 +34,9 @@ unfolding Spans
 first_or_not true m ms u h = inr (Spans-same ms _ _ (sym (twice m u)) h)
 first_or_not false m ms u h = inl (Spans-same ms _ _ (sym (xor_zero_l u)) h)
 
-lowest_tells : (s : ℕ)
+lowest_decides : (s : ℕ)
     → ((has_bit 0 s ≡ false) × (s ≡ 2 * (s / 2))) ⊎ ((has_bit 0 s ≡ true) × (s ≡ 1 + 2 * (s / 2)))
-lowest_tells s =
+lowest_decides s =
     elim (eqb_tells (bit_at s 0) 1) [
       | inl odd ↦ inr (odd.0, omega (arith, odd.1))
       | inr even ↦ inl (even.0, omega (arith, even.1))
@@ -61,14 +61,14 @@ selection-unique (m ∷ ms) s v free s_lt h =
     let u = partial ms (s / 2) (length ms) in
     let u_spans = partial-spans ms (s / 2) in
     let split = partial-first m ms s (length ms) in
-    elim (lowest_tells s) [
+    elim (lowest_decides s) [
       | inl even ↦ (
           let same : u ≡ v =
           sym (xor_zero_l u)
           ∙ ap (λ (b : Bool). bit_xor (if b then m else 0) u) (sym even.0)
           ∙ sym split
           ∙ h in
-          elim (spans_tells ms v) [
+          elim (spans_decides ms v) [
             | inl holds ↦ (let half = selection-unique ms (s / 2) v free.1 (omega arith) same in
                 omega (arith, selection_in m ms v holds.0, even.1))
             | inr fails ↦ absurd (fails.1 (Spans-same ms _ _ same u_spans))
@@ -77,7 +77,7 @@ selection-unique (m ∷ ms) s v free s_lt h =
           let whole : bit_xor m u ≡ v =
           ap (λ (b : Bool). bit_xor (if b then m else 0) u) (sym odd.0) ∙ sym split ∙ h in
           let rest : u ≡ bit_xor m v = sym (twice m u) ∙ ap (bit_xor m) whole in
-          elim (spans_tells ms v) [
+          elim (spans_decides ms v) [
             | inl holds ↦
                 absurd (free.0 (Spans-same ms _ _
                 (xor_comm v (bit_xor m v) ∙ xor_assoc m v v ∙ ap (bit_xor m) (xor_self v) ∙ xor_zero_r m)

@@ -25,14 +25,14 @@ none_below : (P : ℕ → Type 0) (n : ℕ) → P zero → ((p : ℕ) → p < n 
 none_below P n first later zero h = first
 none_below P n first later (suc p) h = later p (omega arith)
 
-zero_tells : (ds : List ℕ)
+zero_decides : (ds : List ℕ)
     → ((list_all (λ d. d == 0) ds ≡ true) × ((p : ℕ) → p < length ds → slice_index ds p ≡ 0))
     ⊎ ((list_all (λ d. d == 0) ds ≡ false) × ((p : ℕ) × (p < length ds) × (slice_index ds p ≢ 0)))
-zero_tells [] = inl (refl, λ p h. absurd (omega arith))
-zero_tells (d ∷ ds) =
+zero_decides [] = inl (refl, λ p h. absurd (omega arith))
+zero_decides (d ∷ ds) =
     elim (eqb_tells d 0) [
       | inr nonzero ↦ inr (ap (λ b. b && list_all (λ x. x == 0) ds) nonzero.0, (0, omega arith, nonzero.1))
-      | inl is_zero ↦ elim (zero_tells ds) [
+      | inl is_zero ↦ elim (zero_decides ds) [
         | inl all ↦
             inl (
               ap₂ (λ a b. a && b) is_zero.0 all.0,
@@ -50,12 +50,12 @@ sum_cancel a b none =
     ∙ sym (xor_assoc a b b)
     ∙ ap (λ n. bit_xor n b) none
 
-pub equal_tells : (old new : List ℕ) → length old ≡ 72 → length new ≡ 72
+pub equal_decides : (old new : List ℕ) → length old ≡ 72 → length new ≡ 72
     → ((are_equal old new ≡ true) × (old ≡ new)) ⊎ ((are_equal old new ≡ false) × (old ≢ new))
 unfolding are_equal
-equal_tells old new old_size new_size =
+equal_decides old new old_size new_size =
     let size = length-delta old new in
-    elim (zero_tells (delta old new)) [
+    elim (zero_decides (delta old new)) [
       | inl all ↦ inl (
         all.0,
         ext_get_or 0 old new (old_size ∙ sym new_size) (λ p p_lt.
@@ -83,7 +83,7 @@ pub steps_needed : (row column : ℕ) (old new : List ℕ) → length old ≡ 72
     → steps old new ≤ length instrs
 unfolding steps weight Flat
 steps_needed row column old new old_size new_size instrs h =
-    elim (equal_tells old new old_size new_size) [
+    elim (equal_decides old new old_size new_size) [
       | inl same ↦ rw same.0 (omega arith)
       | inr differ ↦ rw differ.0 (
           let e =

@@ -7,7 +7,7 @@ use Rattle.cdg_instructions.specs.Instruction.{IsTilePixels}
 use Rattle.cdg_instructions.specs.Drawing.{IsLeast}
 use Rattle.tile_author.specs.Plan.{basis, basis_from, differences_from_first, weight, delta, steps}
 use Rattle.tile_author.proofs.Combine.{both}
-use Rattle.tile_author.proofs.Needed.{length-delta, delta_at, equal_tells}
+use Rattle.tile_author.proofs.Needed.{length-delta, delta_at, equal_decides}
 use Rattle.tile_author.proofs.Shortest.{least}
 
 length-replicate : (n c : ℕ) → length (replicate n c) ≡ n
@@ -57,7 +57,7 @@ least_from_colour row column c new row_lt column_lt c_lt tile differ =
     let old = replicate 72 c in
     let same = same_weight c new tile.count in
     let number : steps old new ≡ weight new =
-    elim (equal_tells old new (one_colour c c_lt).count tile.count) [
+    elim (equal_decides old new (one_colour c c_lt).count tile.count) [
       | inl equal ↦ absurd (differ (sym equal.1))
       | inr unequal ↦ rw unequal.0 (omega arith)
     ] in
@@ -70,7 +70,7 @@ unfolding steps
 least_same row column c row_lt column_lt c_lt =
     let old = replicate 72 c in
     let tile = one_colour c c_lt in
-    let number : steps old old ≡ 0 = elim (equal_tells old old tile.count tile.count) [
+    let number : steps old old ≡ 0 = elim (equal_decides old old tile.count tile.count) [
       | inl equal ↦ rw equal.0 refl
       | inr unequal ↦ absurd (unequal.1 refl)
     ] in

@@ -14,10 +14,10 @@ use Rattle.cdg_instructions.specs.Drawing.{tile_from, Turns, IsOfPlace, IsLeast}
 use Rattle.cdg_instructions.specs.declared.instr.Instr.{Instr}
 use Rattle.cdg_instructions.specs.declared.instr.Instr.TheVariants.{SetTile, XorTile}
 use Rattle.tile_author.specs.Plan.{basis, basis_from, differences_from_first, selection, member_bits, tile_lines, planned, weight, delta, are_equal, plan, steps}
-use Rattle.tile_author.proofs.BasisLaws.{spans_tells}
+use Rattle.tile_author.proofs.BasisLaws.{spans_decides}
 use Rattle.bit_lists.proofs.BitsLemmas.{number_of-lt}
 use Rattle.tile_author.proofs.Lines.{length-parts, parts_at}
-use Rattle.tile_author.proofs.Needed.{length-delta, delta_at, equal_tells, steps_needed}
+use Rattle.tile_author.proofs.Needed.{length-delta, delta_at, equal_decides, steps_needed}
 use Rattle.tile_author.proofs.Works.{drawn_new, combined_new}
 
 small_xor : (a b : ℕ) → a < 16 → b < 16 → bit_xor a b < 16
@@ -38,7 +38,7 @@ unfolding basis_from
 basis_from-small ms [] old new = old
 basis_from-small ms (d ∷ ds) old new =
     let rest = All-tail (λ n. n < 16) d ds new in
-    elim (spans_tells ms d) [
+    elim (spans_decides ms d) [
       | inl holds ↦ rw holds.0 (basis_from-small ms ds old rest)
       | inr fails ↦
           rw fails.0 (basis_from-small (ms ++ d ∷ []) ds
@@ -209,7 +209,7 @@ pub good_plan : (row column : ℕ) (old new : List ℕ) → row < 32 → column 
     → IsGoodPlan row column old new (plan row column old new)
 good_plan row column old new row_lt column_lt old_tile new_tile =
     let Good : List Instr → Type 0 = IsGoodPlan row column old new in
-    elim (equal_tells old new old_tile.count new_tile.count) [
+    elim (equal_decides old new old_tile.count new_tile.count) [
       | inl same ↦
           subst Good (sym (plan_equal row column old new same.0))
           (good_empty row column old new same.0 same.1)

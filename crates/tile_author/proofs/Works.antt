@@ -16,7 +16,7 @@ use Rattle.cdg_instructions.specs.declared.instr.Instr.TheVariants.{Idle, Foreig
 use Rattle.tile_author.proofs.Span.{Spans}
 use Rattle.tile_author.specs.Plan.{is_combination, basis, selection, tile_lines, planned, weight, delta}
 use Rattle.tile_author.proofs.Combine.{twice, swap, both}
-use Rattle.tile_author.proofs.BasisLaws.{spans_tells, spans_difference}
+use Rattle.tile_author.proofs.BasisLaws.{spans_decides, spans_difference}
 use Rattle.tile_author.proofs.Lower.{at_below}
 use Rattle.tile_author.proofs.Lines.{drawn_member}
 use Rattle.tile_author.proofs.Needed.{length-delta, delta_at}
@@ -78,7 +78,7 @@ pub partial-selection : (ms : List ℕ) (d : ℕ) → Spans ms d → partial ms 
 unfolding partial Spans
 partial-selection [] d h = sym h
 partial-selection (m ∷ ms) d h =
-    elim (spans_tells ms d) [
+    elim (spans_decides ms d) [
       | inl holds ↦
           ap (λ n. partial (m ∷ ms) n (suc (length ms))) (selection_in m ms d holds.0)
           ∙ without_first m ms (selection ms d) d (partial-selection ms d holds.1)

@@ -7,7 +7,7 @@ ghost use Rattle.picture_script.specs.Board.{IsPicture, tile_of};
 ghost use Rattle.picture_script.specs.Script.{picture_tile};
 ghost use Rattle.pack_schedule.specs.Change.{most_tile_steps, tiles_before, IsStart};
 ghost use Rattle.pack_schedule.specs.PlannedChange.{planned_tiles, tile_steps};
-ghost use Rattle.pack_schedule.specs.SameTiles.{AreToldTiles};
+ghost use Rattle.pack_schedule.specs.SameTiles.{MarksTiles};
 ghost use Rattle.pack_schedule.specs.Weights.{AreWeights, IsWeighed, IsWeighedAt, not_weighed};
 ghost use Rattle.picture_script.specs.DrawnRows.{KeepsRows};
 
@@ -20,7 +20,7 @@ use tile_author::{
 
 /// The equal tiles of two canvases: whether a whole row is equal, and the equal columns of each other row.
 #[derive(Clone, Copy)]
-pub(crate) struct ToldTiles {
+pub(crate) struct TileMarks {
     pub(crate) rows: [bool; WINDOW_ROWS],
     pub(crate) columns: [[bool; WINDOW_COLUMNS]; WINDOW_ROWS],
 }
@@ -45,24 +45,24 @@ pub(crate) fn same_tiles(
     drawn: &[bool; WINDOW_ROWS],
     before: &Canvas,
     now: &Canvas,
-) -> ToldTiles
+) -> TileMarks
     requires drawn { KeepsRows script.now k drawn.now }
     requires now { IsPicture script.now k now.now }
     requires before { 0 < k → IsPicture script.now (k - 1) before.now }
-    ensures { AreToldTiles before.now.pixels now.now.pixels result }
+    ensures { MarksTiles before.now.pixels now.now.pixels result }
 {
-    let mut told = ToldTiles {
+    let mut marks = TileMarks {
         rows: [true; WINDOW_ROWS],
         columns: [[false; WINDOW_COLUMNS]; WINDOW_ROWS],
     };
     for r in 0..WINDOW_ROWS {
         if drawn[r] {
             let columns = before.shared_columns(now, r as u8 + 1);
-            told.rows[r] = are_all(&columns);
-            told.columns[r] = columns;
+            marks.rows[r] = are_all(&columns);
+            marks.columns[r] = columns;
         }
     }
-    told
+    marks
 }
 
 // Whether all columns are marked. The loop has no early end, so the compiler can vectorize it.
@@ -80,13 +80,13 @@ fn are_all(columns: &[bool; WINDOW_COLUMNS]) -> bool
 // Whether the tile at a place is equal on two canvases with these equal tiles.
 #[inline(always)]
 pub(crate) fn is_same_tile(
-    same: &ToldTiles,
+    same: &TileMarks,
     before: &Canvas,
     now: &Canvas,
     row: u8,
     column: u8,
 ) -> bool
-    requires same { AreToldTiles before.now.pixels now.now.pixels same.now }
+    requires same { MarksTiles before.now.pixels now.now.pixels same.now }
     requires row_first { 1 ≤ row }
     requires row_last { row ≤ window_rows }
     requires column_first { 1 ≤ column }
@@ -133,10 +133,10 @@ pub(crate) fn weigh_tile(
     i: usize,
     before: &Canvas,
     now: &Canvas,
-    same: &ToldTiles,
+    same: &TileMarks,
 ) -> u32
     requires place { i < window_tiles }
-    requires same { AreToldTiles before.now.pixels now.now.pixels same.now }
+    requires same { MarksTiles before.now.pixels now.now.pixels same.now }
     requires now { IsPicture script.now k now.now }
     requires before { 0 < k → IsPicture script.now (k - 1) before.now }
     requires kept { 0 < k → IsWeighedAt script.now (k - 1) i weights.old }
@@ -205,10 +205,10 @@ pub(crate) fn count_tiles(
     k: u32,
     before: &Canvas,
     now: &Canvas,
-    same: &ToldTiles,
+    same: &TileMarks,
     weights: &mut [Weighed; WINDOW_TILES],
 ) -> TileCounts
-    requires same { AreToldTiles before.now.pixels now.now.pixels same.now }
+    requires same { MarksTiles before.now.pixels now.now.pixels same.now }
     requires now { IsPicture script.now k now.now }
     requires before { 0 < k → IsPicture script.now (k - 1) before.now }
     requires weights { 0 < k → AreWeights script.now (k - 1) weights.old }

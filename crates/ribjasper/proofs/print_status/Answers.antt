@@ -4,8 +4,8 @@ use Rattle.ribjasper.proofs.print_status.Goals as goal
 
 pub returns : goal.returns
 returns g c = record {
-  err = from_to c.new-err.result c.tell-told.new.err;
+  err = from_to c.new-err.result c.report_status-reported.new.err;
   over = ap (λ s. s.inner.writer) c.new-err.ensures ∙ c.new.ensures.writer;
   taken = ap (λ s. s.inner.taken.bytes) c.new-err.ensures ∙ c.new.ensures.nothing;
-  told = search rules;
+  reported = search rules;
 }

@@ -3,7 +3,7 @@ use Rattle.cdg_io.specs.Change.{from_to}
 use Rattle.cdg_cmd.specs.declared.status.Status.TheVariants.{Usage}
 use Rattle.cdg_cmd.proofs.Commands.{no_command, same_command}
 use Rattle.cdg_cmd.proofs.Performed.{performed_as}
-use Rattle.cdg_cmd.proofs.Told.{unchanged}
+use Rattle.cdg_cmd.proofs.Reported.{unchanged}
 use Rattle.ribjasper.specs.Runs.{taken_bytes}
 use Rattle.ribjasper.proofs.Lines.{runs_line, runs_program}
 use Rattle.ribjasper.proofs.run_line.Goals as goal

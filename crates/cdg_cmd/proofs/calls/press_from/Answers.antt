@@ -3,7 +3,7 @@ use Rattle.cdg_io.specs.Change.{change}
 use Rattle.cdg_press.specs.Pressed.{press_of}
 use Rattle.cdg_press.specs.declared.stops.PressStop.{PressStop}
 use Rattle.cdg_cmd.specs.Presses.{IsPressedFor}
-use Rattle.cdg_cmd.proofs.PressTold.{pressed_for}
+use Rattle.cdg_cmd.proofs.PressReported.{pressed_for}
 use Rattle.cdg_cmd.proofs.calls.press_from.Goals as goal
 
 pub returns-clause-put : goal.returns-clause-put

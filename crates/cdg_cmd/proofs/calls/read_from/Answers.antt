@@ -22,10 +22,10 @@ returns-in-Err-clause-taken g c =
     takes_unread g.S.Source c.args.source.now c.read_whole.new.source
     c.args.which c.in-Err.stop _ c.read_status.ensures stopped
 
-pub returns-in-Err-clause-told : goal.returns-in-Err-clause-told
-returns-in-Err-clause-told g c =
+pub returns-in-Err-clause-reported : goal.returns-in-Err-clause-reported
+returns-in-Err-clause-reported g c =
     text_ends c.args.which c.in-Err.stop _ (input g.S.Source c.args.source.now c.read_whole.new.source)
-    c.read_status.ensures c.in-Err.ensures.told
+    c.read_status.ensures c.in-Err.ensures.reported
 
 pub returns-in-Err-clause-fault : goal.returns-in-Err-clause-fault
 returns-in-Err-clause-fault g c =

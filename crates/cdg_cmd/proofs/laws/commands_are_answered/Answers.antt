@@ -1,7 +1,7 @@
 use Rattle.subcode_author.specs.Authored.{IsAuthored}
 use Rattle.cdg_cmd.specs.LeadInTexts.{AreLinesOf}
 use Rattle.cdg_cmd.proofs.FirstHalf.{first_half}
-use Rattle.cdg_cmd.proofs.LateTold.{late_cannot}
+use Rattle.cdg_cmd.proofs.LateReported.{late_cannot}
 use Rattle.cdg_cmd.proofs.SecondHalf.{converted_back, gives_none_bad, gives_packs, packs_back, pictures_shown, shown_back}
 use Rattle.cdg_cmd.proofs.Listings.{authored_size, frames_given, lines_given, strings_given}
 use Rattle.cdg_cmd.proofs.Merged.{merged_back}
@@ -16,13 +16,13 @@ returns-clause-authors c = λ disc call status is place.
     call.second.before call.second.after status place is.does
 
 pub returns-clause-late : goal.returns-clause-late
-returns-clause-late c = λ lead_in audio picture need free script call status is told.
+returns-clause-late c = λ lead_in audio picture need free script call status is reported.
     late_cannot lead_in audio call.out script picture need free
     (λ text read. c.needs_are_fewest.ensures.late script picture need free
     (c.accepted_scripts_are_in_order.ensures.times text script read)
     (c.accepted_scripts_are_in_order.ensures.colours text script read)
     (c.accepted_scripts_are_in_order.ensures.pixels text script read))
-    call.first.before call.first.after call.second.before call.second.after status told
+    call.first.before call.first.after call.second.before call.second.after status reported
     (is.does (λ e. cc))
 
 pub returns-clause-gives_back : goal.returns-clause-gives_back

@@ -9,5 +9,5 @@ returns-in-Err-clause-err g c = no_script _ _ c.in-Err.ensures.err
 pub returns-in-Err-clause-fault : goal.returns-in-Err-clause-fault
 returns-in-Err-clause-fault g c = same_stop (ReadFault Second) _ _ _ c.in-Err.ensures.fault
 
-pub returns-in-Err-clause-wants : goal.returns-in-Err-clause-wants
-returns-in-Err-clause-wants g c = same_stop NoMemory _ _ _ c.in-Err.ensures.wants
+pub returns-in-Err-clause-allocations : goal.returns-in-Err-clause-allocations
+returns-in-Err-clause-allocations g c = same_stop NoMemory _ _ _ c.in-Err.ensures.allocations

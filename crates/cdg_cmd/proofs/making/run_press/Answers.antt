@@ -3,10 +3,10 @@ use Rattle.std.proofs.KnownBytes.{Appends-nil}
 use Rattle.cdg_io.specs.Change.{change}
 use Rattle.cdg_cmd.specs.Ends.{AfterBoth, AtSecond, AtSheet}
 use Rattle.cdg_cmd.specs.Presses.{Presses, ReadsFile, RefusesFile}
-use Rattle.cdg_cmd.proofs.AuthorTold.{told_at_sheet}
-use Rattle.cdg_cmd.proofs.PressTold.{told_at_file, told_of_both}
+use Rattle.cdg_cmd.proofs.AuthorReported.{report_at_sheet}
+use Rattle.cdg_cmd.proofs.PressReported.{report_at_file, reported_of_both}
 use Rattle.cdg_cmd.proofs.TextReads.{no_file}
-use Rattle.cdg_cmd.proofs.Wants as wants
+use Rattle.cdg_cmd.proofs.Allocations as allocations
 use Rattle.cdg_cmd.proofs.making.run_press.Goals as goal
 
 pub returns-in-Err-read_text-clause-does : goal.returns-in-Err-read_text-clause-does
@@ -32,44 +32,44 @@ returns-clause-does g c =
 
 pub returns-clause-faults : goal.returns-clause-faults
 returns-clause-faults g c =
-    told_of_both c.in-Ok.sheet c.in-Ok-read_text.file c.press.result _ _ _ _ _ _ _
+    reported_of_both c.in-Ok.sheet c.in-Ok-read_text.file c.press.result _ _ _ _ _ _ _
     c.press_status.ensures c.in-Ok.ensures.fault c.in-Ok-read_text.ensures.fault
     c.press.ensures.write_fault
 
 pub returns-in-Err-clause-faults : goal.returns-in-Err-clause-faults
-returns-in-Err-clause-faults g c = told_at_sheet _ _ _ _ _ _ c.in-Err.ensures.err c.in-Err.ensures.fault
+returns-in-Err-clause-faults g c = report_at_sheet _ _ _ _ _ _ c.in-Err.ensures.err c.in-Err.ensures.fault
 
 pub returns-in-Err-clause-ended : goal.returns-in-Err-clause-ended
-returns-in-Err-clause-ended g c = AtSheet c.in-Err.ensures.err c.in-Err.ensures.told refl refl
+returns-in-Err-clause-ended g c = AtSheet c.in-Err.ensures.err c.in-Err.ensures.reported refl refl
 
 pub returns-in-Err-read_text-clause-faults : goal.returns-in-Err-read_text-clause-faults
 returns-in-Err-read_text-clause-faults g c =
-    told_at_file c.in-Ok.sheet _ _ _ _ _ _ _ (no_file _ _ c.in-Err-read_text.ensures.err)
+    report_at_file c.in-Ok.sheet _ _ _ _ _ _ _ (no_file _ _ c.in-Err-read_text.ensures.err)
     c.in-Ok.ensures.fault
     c.in-Err-read_text.ensures.fault
 
 pub returns-in-Err-read_text-clause-ended : goal.returns-in-Err-read_text-clause-ended
 returns-in-Err-read_text-clause-ended g c =
-    AtSecond c.in-Ok.sheet c.in-Ok.ensures.ok c.in-Ok.ensures.told
+    AtSecond c.in-Ok.sheet c.in-Ok.ensures.ok c.in-Ok.ensures.reported
     (no_file _ _ c.in-Err-read_text.ensures.err)
-    c.in-Err-read_text.ensures.taken c.in-Err-read_text.ensures.told
+    c.in-Err-read_text.ensures.taken c.in-Err-read_text.ensures.reported
 
 pub returns-clause-ended : goal.returns-clause-ended
 returns-clause-ended g c =
-    AfterBoth c.in-Ok.ensures.told c.in-Ok-read_text.ensures.end c.in-Ok-read_text.ensures.told
+    AfterBoth c.in-Ok.ensures.reported c.in-Ok-read_text.ensures.end c.in-Ok-read_text.ensures.reported
     c.press.result c.press_status.ensures
 
-pub returns-in-Err-clause-wants : goal.returns-in-Err-clause-wants
-returns-in-Err-clause-wants g c = wants.stopped _ _ _ c.in-Err.ensures.wants
+pub returns-in-Err-clause-allocations : goal.returns-in-Err-clause-allocations
+returns-in-Err-clause-allocations g c = allocations.stopped _ _ _ c.in-Err.ensures.allocations
 
-pub returns-in-Err-read_text-clause-wants : goal.returns-in-Err-read_text-clause-wants
-returns-in-Err-read_text-clause-wants g c =
-    wants.reached _ _ _ _ (wants.as_it_was c.in-Ok.sheet _ _ c.in-Ok.ensures.wants)
-    (wants.stopped _ _ _ c.in-Err-read_text.ensures.wants)
+pub returns-in-Err-read_text-clause-allocations : goal.returns-in-Err-read_text-clause-allocations
+returns-in-Err-read_text-clause-allocations g c =
+    allocations.reached _ _ _ _ (allocations.as_it_was c.in-Ok.sheet _ _ c.in-Ok.ensures.allocations)
+    (allocations.stopped _ _ _ c.in-Err-read_text.ensures.allocations)
 
-pub returns-clause-wants : goal.returns-clause-wants
-returns-clause-wants g c =
-    wants.reached _ _ _ _
-    (wants.as_it_was c.in-Ok-read_text.file _ _ c.in-Ok-read_text.ensures.wants
-    ∙ wants.as_it_was c.in-Ok.sheet _ _ c.in-Ok.ensures.wants)
-    (wants.told_pressed _ _ c.press.result _ c.press_status.ensures c.press.ensures.counted)
+pub returns-clause-allocations : goal.returns-clause-allocations
+returns-clause-allocations g c =
+    allocations.reached _ _ _ _
+    (allocations.as_it_was c.in-Ok-read_text.file _ _ c.in-Ok-read_text.ensures.allocations
+    ∙ allocations.as_it_was c.in-Ok.sheet _ _ c.in-Ok.ensures.allocations)
+    (allocations.reported_pressed _ _ c.press.result _ c.press_status.ensures c.press.ensures.counted)

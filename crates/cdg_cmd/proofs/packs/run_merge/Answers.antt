@@ -1,4 +1,4 @@
-use Rattle.cdg_cmd.proofs.MergeTold.{never_memory, never_usage, told}
+use Rattle.cdg_cmd.proofs.MergeReported.{never_memory, never_usage, reported}
 use Rattle.cdg_cmd.proofs.packs.run_merge.Goals as goal
 
 pub returns-clause-does : goal.returns-clause-does
@@ -26,7 +26,8 @@ returns-clause-never g c = never_usage c.run.result _ c.merge_status.ensures
 pub returns-clause-faults : goal.returns-clause-faults
 returns-clause-faults g c =
     let done = c.run.ensures in
-    told c.run.result _ _ _ _ _ _ _ c.merge_status.ensures done.first_fault done.second_fault done.write_fault
+    reported c.run.result _ _ _ _ _ _ _ c.merge_status.ensures done.first_fault done.second_fault
+    done.write_fault
 
 pub returns-clause-ended : goal.returns-clause-ended
 returns-clause-ended g c =

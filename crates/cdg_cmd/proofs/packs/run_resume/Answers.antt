@@ -1,7 +1,7 @@
 use Rattle.std.proofs.Common.{ap, refl}
 use Rattle.cdg_io.specs.Reads.{input}
-use Rattle.cdg_cmd.proofs.ResumeTold.{never_memory, reads_second, told, untouched}
-use Rattle.cdg_cmd.proofs.Wants as wants
+use Rattle.cdg_cmd.proofs.ResumeReported.{never_memory, reads_second, reported, untouched}
+use Rattle.cdg_cmd.proofs.Allocations as allocations
 use Rattle.cdg_cmd.proofs.packs.run_resume.Goals as goal
 
 pub returns-in-Ok-clause-does : goal.returns-in-Ok-clause-does
@@ -29,7 +29,7 @@ returns-in-Ok-clause-second g c =
     let done = c.resume.ensures in
     let first = input g.S.Source c.args.first.now c.resume.new.saved in
     reads_second _ _ c.args.at first c.resume.new.self.file c.resume.result done.rest_untouched done.accepted
-    done.reads.taken done.reads.end done.reads.told
+    done.reads.taken done.reads.end done.reads.reported
 
 pub returns-in-Ok-clause-ended : goal.returns-in-Ok-clause-ended
 returns-in-Ok-clause-ended g c = λ found.
@@ -41,19 +41,19 @@ returns-in-Ok-clause-ended g c = λ found.
       accepted = done.accepted;
       reads = done.reads;
       unread = λ refused. ap g.T.Source.ends (done.rest_untouched refused);
-      ended = done.rest_told;
+      ended = done.rest_reported;
     }
 
 pub returns-in-Ok-clause-faults : goal.returns-in-Ok-clause-faults
 returns-in-Ok-clause-faults g c =
     let done = c.resume.ensures in
-    told c.resume.result _ _ _ _ _ _ _ c.resume_status.ensures done.faults.first done.faults.second
+    reported c.resume.result _ _ _ _ _ _ _ c.resume_status.ensures done.faults.first done.faults.second
     done.faults.write
 
-pub returns-in-Ok-clause-wants : goal.returns-in-Ok-clause-wants
-returns-in-Ok-clause-wants g c =
-    wants.found_first _ _ _ c.in-Ok.checkpointer _ c.in-Ok.ensures.counted
+pub returns-in-Ok-clause-allocations : goal.returns-in-Ok-clause-allocations
+returns-in-Ok-clause-allocations g c =
+    allocations.found_first _ _ _ c.in-Ok.checkpointer _ c.in-Ok.ensures.counted
     (never_memory c.resume.result _ c.resume_status.ensures)
 
-pub returns-in-Err-clause-wants : goal.returns-in-Err-clause-wants
-returns-in-Err-clause-wants g c = wants.lacked_first _ _ _ _ refl c.in-Err.ensures.counted
+pub returns-in-Err-clause-allocations : goal.returns-in-Err-clause-allocations
+returns-in-Err-clause-allocations g c = allocations.lacked_first _ _ _ _ refl c.in-Err.ensures.counted

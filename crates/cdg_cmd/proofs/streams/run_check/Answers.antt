@@ -1,4 +1,4 @@
-use Rattle.cdg_cmd.proofs.Played.{never_memory, told_one, untouched}
+use Rattle.cdg_cmd.proofs.Played.{never_memory, reported_one, untouched}
 use Rattle.cdg_cmd.proofs.streams.run_check.Goals as goal
 
 pub returns-clause-does : goal.returns-clause-does
@@ -18,7 +18,7 @@ returns-clause-memory g c =
 
 pub returns-clause-faults : goal.returns-clause-faults
 returns-clause-faults g c =
-    told_one c.check.result _ _ _ _ _ c.play_status.ensures c.check.ensures.plays.plays.faults
+    reported_one c.check.result _ _ _ _ _ c.play_status.ensures c.check.ensures.plays.plays.faults
 
 pub returns-clause-ended : goal.returns-clause-ended
 returns-clause-ended g c =

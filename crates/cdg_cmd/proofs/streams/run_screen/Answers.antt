@@ -1,6 +1,6 @@
 use Rattle.std.proofs.Common.{refl}
-use Rattle.cdg_cmd.proofs.Played.{shown_never_memory, told_one, untouched}
-use Rattle.cdg_cmd.proofs.Wants as wants
+use Rattle.cdg_cmd.proofs.Played.{shown_never_memory, reported_one, untouched}
+use Rattle.cdg_cmd.proofs.Allocations as allocations
 use Rattle.cdg_cmd.proofs.streams.run_screen.Goals as goal
 
 pub returns-in-Ok-clause-does : goal.returns-in-Ok-clause-does
@@ -26,7 +26,7 @@ returns-in-Ok-clause-untouched g c =
 
 pub returns-in-Ok-clause-faults : goal.returns-in-Ok-clause-faults
 returns-in-Ok-clause-faults g c =
-    told_one c.screen_at.result _ _ _ _ _ c.play_status.ensures c.screen_at.ensures.plays.plays.faults
+    reported_one c.screen_at.result _ _ _ _ _ c.play_status.ensures c.screen_at.ensures.plays.plays.faults
 
 pub returns-in-Ok-clause-ended : goal.returns-in-Ok-clause-ended
 returns-in-Ok-clause-ended g c = λ found.
@@ -36,10 +36,10 @@ returns-in-Ok-clause-ended g c = λ found.
       ended = c.screen_at.ensures.plays.plays.ended;
     }
 
-pub returns-in-Ok-clause-wants : goal.returns-in-Ok-clause-wants
-returns-in-Ok-clause-wants g c =
-    wants.found_first _ _ _ c.in-Ok.viewer _ c.in-Ok.ensures.counted
+pub returns-in-Ok-clause-allocations : goal.returns-in-Ok-clause-allocations
+returns-in-Ok-clause-allocations g c =
+    allocations.found_first _ _ _ c.in-Ok.viewer _ c.in-Ok.ensures.counted
     (shown_never_memory c.screen_at.result _ c.play_status.ensures c.screen_at.ensures.plays.plays.stops)
 
-pub returns-in-Err-clause-wants : goal.returns-in-Err-clause-wants
-returns-in-Err-clause-wants g c = wants.lacked_first _ _ _ _ refl c.in-Err.ensures.counted
+pub returns-in-Err-clause-allocations : goal.returns-in-Err-clause-allocations
+returns-in-Err-clause-allocations g c = allocations.lacked_first _ _ _ _ refl c.in-Err.ensures.counted

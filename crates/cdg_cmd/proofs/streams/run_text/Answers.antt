@@ -1,6 +1,6 @@
 use Rattle.std.proofs.Common.{inl, inr, refl}
-use Rattle.cdg_cmd.proofs.Played.{lacks_memory, told_one, untouched}
-use Rattle.cdg_cmd.proofs.Wants as wants
+use Rattle.cdg_cmd.proofs.Played.{out_of_memory_is, reported_one, untouched}
+use Rattle.cdg_cmd.proofs.Allocations as allocations
 use Rattle.cdg_cmd.proofs.streams.run_text.Goals as goal
 
 pub returns-in-Ok-clause-does : goal.returns-in-Ok-clause-does
@@ -20,7 +20,7 @@ returns-in-Ok-clause-untouched g c =
 
 pub returns-in-Ok-clause-faults : goal.returns-in-Ok-clause-faults
 returns-in-Ok-clause-faults g c =
-    told_one c.list_texts.result _ _ _ _ _ c.play_status.ensures c.list_texts.ensures.plays.plays.faults
+    reported_one c.list_texts.result _ _ _ _ _ c.play_status.ensures c.list_texts.ensures.plays.plays.faults
 
 pub returns-in-Ok-clause-ended : goal.returns-in-Ok-clause-ended
 returns-in-Ok-clause-ended g c =
@@ -31,7 +31,7 @@ returns-in-Ok-clause-ended g c =
         status_is = c.play_status.ensures;
         ended = c.list_texts.ensures.plays.plays.ended;
       },
-      λ none. (lacks_memory c.list_texts.result _ c.args.form c.args.lead_in _ _ c.play_status.ensures
+      λ none. (out_of_memory_is c.list_texts.result _ c.args.form c.args.lead_in _ _ c.play_status.ensures
           played.puts.plays.ended played.answer none).0,
     )
 
@@ -41,13 +41,13 @@ returns-in-Err-clause-ended g c = inl (refl, refl, refl)
 pub returns-in-Ok-clause-no_memory : goal.returns-in-Ok-clause-no_memory
 returns-in-Ok-clause-no_memory g c = λ none.
     let played = c.list_texts.ensures.plays.plays in
-    inr (lacks_memory c.list_texts.result _ c.args.form c.args.lead_in _ _ c.play_status.ensures
+    inr (out_of_memory_is c.list_texts.result _ c.args.form c.args.lead_in _ _ c.play_status.ensures
     played.puts.plays.ended played.answer none)
 
-pub returns-in-Ok-clause-wants : goal.returns-in-Ok-clause-wants
-returns-in-Ok-clause-wants g c =
-    wants.reached _ _ _ _ (wants.kept_first _ _ _ _ c.in-Ok.ensures.counted)
-    (wants.told_listed _ _ c.list_texts.result _ c.play_status.ensures c.list_texts.ensures.counted)
+pub returns-in-Ok-clause-allocations : goal.returns-in-Ok-clause-allocations
+returns-in-Ok-clause-allocations g c =
+    allocations.reached _ _ _ _ (allocations.kept_first _ _ _ _ c.in-Ok.ensures.counted)
+    (allocations.reported_listed _ _ c.list_texts.result _ c.play_status.ensures c.list_texts.ensures.counted)
 
-pub returns-in-Err-clause-wants : goal.returns-in-Err-clause-wants
-returns-in-Err-clause-wants g c = wants.lacked_first _ _ _ _ refl c.in-Err.ensures.counted
+pub returns-in-Err-clause-allocations : goal.returns-in-Err-clause-allocations
+returns-in-Err-clause-allocations g c = allocations.lacked_first _ _ _ _ refl c.in-Err.ensures.counted

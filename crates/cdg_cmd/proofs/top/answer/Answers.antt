@@ -1,9 +1,9 @@
 use Rattle.std.proofs.Common.{refl, sym}
 use Rattle.cdg_cmd.specs.declared.status.Status.TheVariants.{Usage}
-use Rattle.cdg_cmd.proofs.Told.{unchanged}
+use Rattle.cdg_cmd.proofs.Reported.{unchanged}
 use Rattle.cdg_cmd.proofs.Commands.{no_command, same_command}
 use Rattle.cdg_cmd.proofs.Performed.{performed_as}
-use Rattle.cdg_cmd.proofs.Wants as wants
+use Rattle.cdg_cmd.proofs.Allocations as allocations
 use Rattle.cdg_cmd.proofs.top.answer.Goals as goal
 
 pub returns-in-Some-clause-usage : goal.returns-in-Some-clause-usage
@@ -27,5 +27,5 @@ returns-in-None-clause-performs g c =
 pub returns-in-None-clause-faults : goal.returns-in-None-clause-faults
 returns-in-None-clause-faults g c = unchanged _ _ _
 
-pub returns-in-None-clause-wants : goal.returns-in-None-clause-wants
-returns-in-None-clause-wants g c = wants.takes_none Usage _ (λ e. cc)
+pub returns-in-None-clause-allocations : goal.returns-in-None-clause-allocations
+returns-in-None-clause-allocations g c = allocations.takes_none Usage _ (λ e. cc)

@@ -1,11 +1,11 @@
 use Rattle.std.proofs.Common.{refl, subst, inl, inr}
 use Rattle.cdg_cmd.specs.Authors.{AuthorsWith}
 use Rattle.cdg_cmd.specs.Presses.{PressesWith}
-use Rattle.cdg_cmd.proofs.Performed.{not_cut, not_done, only_lacking, performed_as, wants_first, wants_later, wants_none, wrote_nothing}
-use Rattle.cdg_cmd.proofs.Played.{never_memory, never_usage, told_one}
-use Rattle.cdg_cmd.proofs.Told.{of_gen, of_one, of_trial}
-use Rattle.cdg_cmd.proofs.Wants as wants
-use Rattle.cdg_cmd.proofs.Wants.{not_lacking}
+use Rattle.cdg_cmd.proofs.Performed.{not_cut, not_done, only_lacking, performed_as, allocations_first, allocations_later, no_allocation_failed, wrote_nothing}
+use Rattle.cdg_cmd.proofs.Played.{never_memory, never_usage, reported_one}
+use Rattle.cdg_cmd.proofs.Reported.{of_gen, of_one, of_trial}
+use Rattle.cdg_cmd.proofs.Allocations as allocations
+use Rattle.cdg_cmd.proofs.Allocations.{not_lacking}
 use Rattle.cdg_cmd.proofs.top.perform.Goals as goal
 
 pub returns-in-Convert-clause-never : goal.returns-in-Convert-clause-never
@@ -19,7 +19,7 @@ returns-in-Convert-clause-performs g c =
     let found = never_memory answer _ is played.stops in
     performed_as c.in-Convert.is (record {
       keeps = record { first = λ unread. absurd unread; second = inl refl; out = λ last. absurd last };
-      memory = wants_none found;
+      memory = no_allocation_failed found;
       does = λ _. record {
         answer = answer;
         status_is = is;
@@ -27,7 +27,7 @@ returns-in-Convert-clause-performs g c =
         did = played.puts;
         exactly = (played.stops, played.answer);
       };
-      lacks = λ none. absurd (found none);
+      out_of_memory = λ none. absurd (found none);
       ends = λ _. (record { answer = answer; status_is = is; ended = played.ended }, refl);
     })
 
@@ -36,9 +36,9 @@ returns-in-Q-clause-performs g c =
     let done = c.run_q.ensures in
     performed_as c.in-Q.is (record {
       keeps = record { first = λ unread. absurd unread; second = inl refl; out = λ last. absurd last };
-      memory = wants_none done.memory;
+      memory = no_allocation_failed done.memory;
       does = λ found. done.does;
-      lacks = λ none. absurd (done.memory none);
+      out_of_memory = λ none. absurd (done.memory none);
       ends = λ found. (done.ended, refl);
     })
 
@@ -47,9 +47,9 @@ returns-in-Planar-clause-performs g c =
     let done = c.run_planar.ensures in
     performed_as c.in-Planar.is (record {
       keeps = record { first = λ unread. absurd unread; second = inl refl; out = λ last. absurd last };
-      memory = wants_none done.memory;
+      memory = no_allocation_failed done.memory;
       does = λ found. done.does;
-      lacks = λ none. absurd (done.memory none);
+      out_of_memory = λ none. absurd (done.memory none);
       ends = λ found. (done.ended, refl);
     })
 
@@ -58,9 +58,9 @@ returns-in-Raw-clause-performs g c =
     let done = c.run_raw.ensures in
     performed_as c.in-Raw.is (record {
       keeps = record { first = λ unread. absurd unread; second = inl refl; out = λ last. absurd last };
-      memory = wants_none done.memory;
+      memory = no_allocation_failed done.memory;
       does = λ found. done.does;
-      lacks = λ none. absurd (done.memory none);
+      out_of_memory = λ none. absurd (done.memory none);
       ends = λ found. (done.ended, refl);
     })
 
@@ -69,9 +69,9 @@ returns-in-Scratch-clause-performs g c =
     let done = c.run_scratch.ensures in
     performed_as c.in-Scratch.is (record {
       keeps = record { first = λ unread. absurd unread; second = inl refl; out = λ last. absurd last };
-      memory = wants_none done.memory;
+      memory = no_allocation_failed done.memory;
       does = λ found. done.does;
-      lacks = λ none. absurd (done.memory none);
+      out_of_memory = λ none. absurd (done.memory none);
       ends = λ found. (done.ended, refl);
     })
 
@@ -80,9 +80,9 @@ returns-in-Check-clause-performs g c =
     let done = c.run_check.ensures in
     performed_as c.in-Check.is (record {
       keeps = record { first = λ unread. absurd unread; second = inl refl; out = λ last. done.untouched };
-      memory = wants_none done.memory;
+      memory = no_allocation_failed done.memory;
       does = λ found. done.does;
-      lacks = λ none. absurd (done.memory none);
+      out_of_memory = λ none. absurd (done.memory none);
       ends = λ found. (done.ended, refl);
     })
 
@@ -91,10 +91,10 @@ returns-in-Screen-clause-performs g c =
     let done = c.run_screen.ensures in
     performed_as c.in-Screen.is (record {
       keeps = record { first = λ unread. absurd unread; second = inl refl; out = λ last. done.untouched };
-      memory = wants_first (λ takes. takes)
+      memory = allocations_first (λ takes. takes)
           (λ none. ((done.no_memory none).0, refl, (done.no_memory none).1));
       does = done.does;
-      lacks = λ none. tt;
+      out_of_memory = λ none. tt;
       ends = λ found. (done.ended (found tt), refl);
     })
 
@@ -103,10 +103,10 @@ returns-in-State-clause-performs g c =
     let done = c.run_state.ensures in
     performed_as c.in-State.is (record {
       keeps = record { first = λ unread. absurd unread; second = inl refl; out = λ last. done.untouched };
-      memory = wants_first (λ takes. takes)
+      memory = allocations_first (λ takes. takes)
           (λ none. ((done.no_memory none).0, refl, (done.no_memory none).1));
       does = done.does;
-      lacks = λ none. tt;
+      out_of_memory = λ none. tt;
       ends = λ found. (done.ended (found tt), refl);
     })
 
@@ -115,10 +115,10 @@ returns-in-Save-clause-performs g c =
     let done = c.run_save.ensures in
     performed_as c.in-Save.is (record {
       keeps = record { first = λ unread. absurd unread; second = inl refl; out = λ last. done.untouched };
-      memory = wants_first (λ takes. takes)
+      memory = allocations_first (λ takes. takes)
           (λ none. ((done.no_memory none).0, refl, (done.no_memory none).1));
       does = done.does;
-      lacks = λ none. tt;
+      out_of_memory = λ none. tt;
       ends = λ found. (done.ended (found tt), refl);
     })
 
@@ -127,10 +127,10 @@ returns-in-Thin-clause-performs g c =
     let done = c.run_thin.ensures in
     performed_as c.in-Thin.is (record {
       keeps = record { first = λ unread. absurd unread; second = inl refl; out = λ last. absurd last };
-      memory = wants_first (λ takes. takes)
+      memory = allocations_first (λ takes. takes)
           (λ none. ((done.no_memory none).0, refl, (done.no_memory none).1));
       does = done.does;
-      lacks = λ none. tt;
+      out_of_memory = λ none. tt;
       ends = λ found. (done.ended (found tt), refl);
     })
 
@@ -139,9 +139,10 @@ returns-in-Text-clause-performs g c =
     let done = c.run_text.ensures in
     performed_as c.in-Text.is (record {
       keeps = record { first = λ unread. absurd unread; second = inl refl; out = λ last. done.untouched };
-      memory = wants_later (λ takes. takes) (λ first. first) (λ none. done.untouched (wrote_nothing none));
+      memory =
+          allocations_later (λ takes. takes) (λ first. first) (λ none. done.untouched (wrote_nothing none));
       does = done.does;
-      lacks = done.no_memory;
+      out_of_memory = done.no_memory;
       ends = λ found. (done.ended, refl);
     })
 
@@ -154,10 +155,10 @@ returns-in-Author-clause-performs g c =
         second = done.second;
         out = λ last unwritten. done.untouched (not_done unwritten) (not_cut unwritten);
       };
-      memory = wants_later (λ takes. takes) (λ first. first)
+      memory = allocations_later (λ takes. takes) (λ first. first)
           (λ none. done.untouched (not_done (wrote_nothing none)) (not_cut (wrote_nothing none)));
       does = λ found. done.does;
-      lacks = λ none. subst (AuthorsWith c.in-Author.lead_in c.in-Author.length _) none done.does;
+      out_of_memory = λ none. subst (AuthorsWith c.in-Author.lead_in c.in-Author.length _) none done.does;
       ends = λ found. done.ended;
     })
 
@@ -170,10 +171,10 @@ returns-in-Press-clause-performs g c =
         second = done.second;
         out = λ last unwritten. done.untouched (not_done unwritten) (not_cut unwritten);
       };
-      memory = wants_later (λ takes. takes) (λ first. first)
+      memory = allocations_later (λ takes. takes) (λ first. first)
           (λ none. done.untouched (not_done (wrote_nothing none)) (not_cut (wrote_nothing none)));
       does = λ found. done.does;
-      lacks = λ none. subst (PressesWith c.in-Press.lead_in c.in-Press.length _) none done.does;
+      out_of_memory = λ none. subst (PressesWith c.in-Press.lead_in c.in-Press.length _) none done.does;
       ends = λ found. done.ended;
     })
 
@@ -182,9 +183,9 @@ returns-in-Resume-clause-performs g c =
     let done = c.run_resume.ensures in
     performed_as c.in-Resume.is (record {
       keeps = record { first = λ unread. absurd unread; second = done.second; out = λ last. done.untouched };
-      memory = wants_first (λ takes. takes) done.no_memory;
+      memory = allocations_first (λ takes. takes) done.no_memory;
       does = done.does;
-      lacks = λ none. tt;
+      out_of_memory = λ none. tt;
       ends = λ found. done.ended (found tt);
     })
 
@@ -193,9 +194,9 @@ returns-in-Merge-clause-performs g c =
     let done = c.run_merge.ensures in
     performed_as c.in-Merge.is (record {
       keeps = record { first = λ unread. absurd unread; second = inr tt; out = λ last. absurd last };
-      memory = wants_none done.memory;
+      memory = no_allocation_failed done.memory;
       does = λ found. done.does;
-      lacks = λ none. absurd (done.memory none);
+      out_of_memory = λ none. absurd (done.memory none);
       ends = λ found. done.ended;
     })
 
@@ -204,9 +205,9 @@ returns-in-Gen-clause-performs g c =
     let done = c.run_gen.ensures in
     performed_as c.in-Gen.is (record {
       keeps = record { first = λ unread. refl; second = inl refl; out = λ last. absurd last };
-      memory = wants_none (not_lacking _ done.never);
+      memory = no_allocation_failed (not_lacking _ done.never);
       does = λ found. done.does;
-      lacks = λ none. absurd (not_lacking _ done.never none);
+      out_of_memory = λ none. absurd (not_lacking _ done.never none);
       ends = λ found. (refl, refl);
     })
 
@@ -219,16 +220,16 @@ returns-in-Trial-clause-performs g c =
         second = inl refl;
         out = λ last unwritten. done.no_memory (only_lacking _ done.never unwritten);
       };
-      memory = wants_first (λ takes. takes) (λ none. (refl, refl, done.no_memory none));
+      memory = allocations_first (λ takes. takes) (λ none. (refl, refl, done.no_memory none));
       does = done.does;
-      lacks = λ none. tt;
+      out_of_memory = λ none. tt;
       ends = λ found. (refl, refl);
     })
 
 pub returns-in-Convert-clause-faults : goal.returns-in-Convert-clause-faults
 returns-in-Convert-clause-faults g c =
     of_one c.play_status.result (g.T.Source.faults c.args.second.now) _ _
-    (told_one c.convert.result _ _ _ _ _ c.play_status.ensures c.convert.ensures.plays.faults)
+    (reported_one c.convert.result _ _ _ _ _ c.play_status.ensures c.convert.ensures.plays.faults)
 
 pub returns-in-Screen-clause-faults : goal.returns-in-Screen-clause-faults
 returns-in-Screen-clause-faults g c =
@@ -280,27 +281,28 @@ returns-in-Trial-clause-faults g c =
     of_trial c.run_trial.result (g.S.Source.faults c.args.first.now) (g.T.Source.faults c.args.second.now) _
     c.run_trial.ensures.never c.run_trial.ensures.faults
 
-pub returns-in-Convert-clause-wants : goal.returns-in-Convert-clause-wants
-returns-in-Convert-clause-wants g c =
-    wants.takes_none _ _ (never_memory c.convert.result _ c.play_status.ensures c.convert.ensures.plays.stops)
+pub returns-in-Convert-clause-allocations : goal.returns-in-Convert-clause-allocations
+returns-in-Convert-clause-allocations g c =
+    allocations.takes_none _ _
+    (never_memory c.convert.result _ c.play_status.ensures c.convert.ensures.plays.stops)
 
-pub returns-in-Check-clause-wants : goal.returns-in-Check-clause-wants
-returns-in-Check-clause-wants g c = wants.takes_none _ _ c.run_check.ensures.memory
+pub returns-in-Check-clause-allocations : goal.returns-in-Check-clause-allocations
+returns-in-Check-clause-allocations g c = allocations.takes_none _ _ c.run_check.ensures.memory
 
-pub returns-in-Q-clause-wants : goal.returns-in-Q-clause-wants
-returns-in-Q-clause-wants g c = wants.takes_none _ _ c.run_q.ensures.memory
+pub returns-in-Q-clause-allocations : goal.returns-in-Q-clause-allocations
+returns-in-Q-clause-allocations g c = allocations.takes_none _ _ c.run_q.ensures.memory
 
-pub returns-in-Planar-clause-wants : goal.returns-in-Planar-clause-wants
-returns-in-Planar-clause-wants g c = wants.takes_none _ _ c.run_planar.ensures.memory
+pub returns-in-Planar-clause-allocations : goal.returns-in-Planar-clause-allocations
+returns-in-Planar-clause-allocations g c = allocations.takes_none _ _ c.run_planar.ensures.memory
 
-pub returns-in-Raw-clause-wants : goal.returns-in-Raw-clause-wants
-returns-in-Raw-clause-wants g c = wants.takes_none _ _ c.run_raw.ensures.memory
+pub returns-in-Raw-clause-allocations : goal.returns-in-Raw-clause-allocations
+returns-in-Raw-clause-allocations g c = allocations.takes_none _ _ c.run_raw.ensures.memory
 
-pub returns-in-Scratch-clause-wants : goal.returns-in-Scratch-clause-wants
-returns-in-Scratch-clause-wants g c = wants.takes_none _ _ c.run_scratch.ensures.memory
+pub returns-in-Scratch-clause-allocations : goal.returns-in-Scratch-clause-allocations
+returns-in-Scratch-clause-allocations g c = allocations.takes_none _ _ c.run_scratch.ensures.memory
 
-pub returns-in-Merge-clause-wants : goal.returns-in-Merge-clause-wants
-returns-in-Merge-clause-wants g c = wants.takes_none _ _ c.run_merge.ensures.memory
+pub returns-in-Merge-clause-allocations : goal.returns-in-Merge-clause-allocations
+returns-in-Merge-clause-allocations g c = allocations.takes_none _ _ c.run_merge.ensures.memory
 
-pub returns-in-Gen-clause-wants : goal.returns-in-Gen-clause-wants
-returns-in-Gen-clause-wants g c = wants.generates _ _ c.run_gen.ensures.never
+pub returns-in-Gen-clause-allocations : goal.returns-in-Gen-clause-allocations
+returns-in-Gen-clause-allocations g c = allocations.generates _ _ c.run_gen.ensures.never

@@ -21,9 +21,9 @@ returns-clause-authors g c = λ disc spelled place.
     (did (c.answer-status.ensures.performs (Author disc.lead_in disc.audio) spelled)) place
 
 pub returns-clause-late : goal.returns-clause-late
-returns-clause-late g c = λ lead_in audio picture need free script spelled told.
+returns-clause-late g c = λ lead_in audio picture need free script spelled reported.
     c.commands_are_answered.ensures.late lead_in audio picture need free script _ _
-    (did (c.answer-status.ensures.performs (Author lead_in audio) spelled)) told
+    (did (c.answer-status.ensures.performs (Author lead_in audio) spelled)) reported
 
 pub returns-clause-gives_back : goal.returns-clause-gives_back
 returns-clause-gives_back g c = λ form disc stream packs spelled authored.

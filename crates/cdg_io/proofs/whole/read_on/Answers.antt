@@ -43,7 +43,7 @@ loop-count-preserved g c =
         omega (arith, length-append xs more, size, count, c.if-count-room.false),
         Consumes-trans _ _ _ _ _ taken c.in-Ok.ensures.bytes.0,
       );
-      told = c.in-Ok.ensures.counts.end.goes_on (omega (arith, c.in-Ok.count-test.1)) ∙ before.told;
+      reported = c.in-Ok.ensures.counts.end.goes_on (omega (arith, c.in-Ok.count-test.1)) ∙ before.reported;
       same = c.in-Ok.ensures.cause.same ∙ before.same;
     }
 
@@ -66,17 +66,17 @@ returns-in-Ok-eq0-clause-no_memory g c = λ _.
       end = c.in-Ok-eq0.ensures.bytes.1 zero some;
     }
 
-pub returns-in-Ok-eq0-clause-told : goal.returns-in-Ok-eq0-clause-told
-returns-in-Ok-eq0-clause-told g c =
-    rose_once_since c.loop-count.invariant.told
+pub returns-in-Ok-eq0-clause-reported : goal.returns-in-Ok-eq0-clause-reported
+returns-in-Ok-eq0-clause-reported g c =
+    rose_once_since c.loop-count.invariant.reported
     (c.in-Ok-eq0.ensures.counts.end.ended (omega (arith, c.in-Ok-eq0.field-0-test)))
 
-pub returns-in-Ok-clause-told : goal.returns-in-Ok-clause-told
-returns-in-Ok-clause-told g c =
-    c.in-Ok.ensures.counts.end.goes_on (omega (arith, c.in-Ok.count-test.1)) ∙ c.loop-count.invariant.told
+pub returns-in-Ok-clause-reported : goal.returns-in-Ok-clause-reported
+returns-in-Ok-clause-reported g c =
+    c.in-Ok.ensures.counts.end.goes_on (omega (arith, c.in-Ok.count-test.1)) ∙ c.loop-count.invariant.reported
 
-pub returns-in-Err-clause-told : goal.returns-in-Err-clause-told
-returns-in-Err-clause-told g c = c.in-Err.ensures.counts.end.failed ∙ c.loop-count.invariant.told
+pub returns-in-Err-clause-reported : goal.returns-in-Err-clause-reported
+returns-in-Err-clause-reported g c = c.in-Err.ensures.counts.end.failed ∙ c.loop-count.invariant.reported
 
 pub returns-in-Err-clause-cut : goal.returns-in-Err-clause-cut
 returns-in-Err-clause-cut g c = λ _.

@@ -7,7 +7,7 @@ invariant-loop-count g l = record {
   size : length l.chunk ≡ 4096;
   taken : (xs : List ℕ) × (length xs + l.room ≡ l.most)
       × Consumes (g.S.Source.left l.initial.source) (g.S.Source.left l.source) xs;
-  told : g.S.Source.ends l.source ≡ g.S.Source.ends l.initial.source;
+  reported : g.S.Source.ends l.source ≡ g.S.Source.ends l.initial.source;
   same : g.S.Source.faults l.source ≡ g.S.Source.faults l.initial.source;
 }
 

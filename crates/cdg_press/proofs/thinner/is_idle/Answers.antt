@@ -7,4 +7,5 @@ use Rattle.cdg_press.proofs.thinner.is_idle.Goals as goal
 pub returns : goal.returns
 returns c =
     λ zero. idle_by_mode c.args.bytes.now
-    (get_or-map (λ byte. byte % 64) c.args.bytes.now 0 0 0 (omega (arith, c.told-bytes)) ∙ eqb-true _ _ zero)
+    (get_or-map (λ byte. byte % 64) c.args.bytes.now 0 0 0 (omega (arith, c.told-bytes))
+    ∙ eqb-true _ _ zero)

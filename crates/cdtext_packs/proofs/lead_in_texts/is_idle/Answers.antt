@@ -16,5 +16,6 @@ loop-byte-preserved c = λ none n lt.
 pub returns : goal.returns
 returns c = λ yes.
     let block = c.args.block.now in
-    no_symbols block (λ n lt. c.loop-byte.invariant (eqb-true _ _ yes) n (omega (arith, lt, c.told-block)))
+    no_symbols block
+    (λ n lt. c.loop-byte.invariant (eqb-true _ _ yes) n (omega (arith, lt, c.told-block)))
     ∙ ap (λ n. replicate n 0) c.told-block

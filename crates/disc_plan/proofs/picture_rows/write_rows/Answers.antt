@@ -37,11 +37,11 @@ loop-k-preserved c =
     let found : IsWriting script all c.args.rows.now k (line ∷ lines) c.loop-k.rows c.loop-k.late = subst
     (λ (ls : List ℕ). IsWriting script all c.args.rows.now k ls c.loop-k.rows c.loop-k.late)
     c.in-Some-next_number.ensures so_far in
-    let told : IsWriting script all c.args.rows.now (k + 1) lines
-    (slice_set c.loop-k.rows k c.told_row.result) c.if-plan.late =
+    let reported : IsWriting script all c.args.rows.now (k + 1) lines
+    (slice_set c.loop-k.rows k c.planned_row.result) c.if-plan.late =
     subst (λ (row : PlannedRow).
     IsWriting script all c.args.rows.now (k + 1) lines (slice_set c.loop-k.rows k row) c.if-plan.late)
-    (sym c.told_row.ensures)
+    (sym c.planned_row.ensures)
     (elim c.if-plan.branch [
       | then-plan w ↦
           one_written script all c.args.rows.now c.loop-k.rows k line lines plan c.loop-k.late c.if-plan.late
@@ -50,7 +50,7 @@ loop-k-preserved c =
           one_written script all c.args.rows.now c.loop-k.rows k line lines plan c.loop-k.late c.if-plan.late
           false found lt c.requires.room count here w.if-plan.false (omega (arith, w.late-is))
     ]) in (
-      told,
+      reported,
       c.in-Some.ensures.script ∙ same,
       given_next c.loop-k.planner.given (pictures c.loop-k.planner.script) c.next_row.new.self.given
           (omega (arith, lt, given, ap pictures same)) c.in-Some.ensures.given

@@ -5,7 +5,7 @@ use Rattle.cdg_io.proofs.Runs.{run_state-append}
 use Rattle.cdg_screen.specs.Standing.{Standing, standing_after}
 use Rattle.cdg_screen.proofs.Turns.{in_turn}
 use Rattle.live_player.specs.Lives.{Given, Drawn, HasPlayed, instruction_of, standing_on}
-use Rattle.live_player.specs.Changes.{changes_on, sees, watch_from, KeepsUntold}
+use Rattle.live_player.specs.Changes.{changes_on, sees, watch_from, KeepsUnchanged}
 use Rattle.live_player.specs.Taken.{DrawsPacks}
 use Rattle.live_player.specs.declared.change.ScreenChange.{ScreenChange}
 use Rattle.live_player.specs.declared.watch.Watch.{Watch}
@@ -29,9 +29,9 @@ loop-pack-preserved g c =
     let instrs : before ++ instruction_of pack ∷ [] ≡ map instruction_of (take (i + 1) packs) =
     sym (map-append instruction_of (take i packs) (pack ∷ [])) ∙ ap (map instruction_of) (sym more) in
     record {
-      told =
+      reported =
           c.draw_next.ensures.sees
-          ∙ ap (λ (w : Watch). sees w (instruction_of pack)) c.loop-pack.invariant.told
+          ∙ ap (λ (w : Watch). sees w (instruction_of pack)) c.loop-pack.invariant.reported
           ∙ sym (run_state-append sees watch before (instruction_of pack ∷ []))
           ∙ ap (run_state sees watch) instrs;
       draws = record {
@@ -58,7 +58,7 @@ loop-pack-preserved g c =
 
 pub loop-pack-init : goal.loop-pack-init
 loop-pack-init g c = record {
-  told = c.watch_of-watch.ensures.from;
+  reported = c.watch_of-watch.ensures.from;
   draws = record {
     gathers = refl;
     draws = sym c.watch_of-watch.ensures.whole;
@@ -86,17 +86,17 @@ returns g c =
           subst (λ (l : List (List ℕ)). HasPlayed form lead_in (map Drawn (reverse l) ++ given) after) whole
           (c.loop-pack.invariant.drawn form lead_in given played);
       reports = record {
-        told =
-            ap (λ (w : Watch). w.change) c.loop-pack.invariant.told
+        reported =
+            ap (λ (w : Watch). w.change) c.loop-pack.invariant.reported
             ∙ ap (λ (l : List (List ℕ)). changes_on start (map instruction_of l)) whole;
         stands =
             c.loop-pack.invariant.draws.draws
             ∙ ap (λ (l : List (List ℕ)). standing_after start (map instruction_of l)) whole;
         keeps =
-            subst (λ (it : ScreenChange). KeepsUntold it start (standing_on after))
-            (sym (ap (λ (w : Watch). w.change) c.loop-pack.invariant.told))
-            (subst (λ (s : Standing). KeepsUntold (changes_on start instrs) start s)
+            subst (λ (it : ScreenChange). KeepsUnchanged it start (standing_on after))
+            (sym (ap (λ (w : Watch). w.change) c.loop-pack.invariant.reported))
+            (subst (λ (s : Standing). KeepsUnchanged (changes_on start instrs) start s)
             (sym c.loop-pack.invariant.draws.draws)
-            (c.untold_stays.ensures start instrs c.watch_of-watch.ensures.whole));
+            (c.unchanged_stays.ensures start instrs c.watch_of-watch.ensures.whole));
       };
     }

@@ -11,7 +11,7 @@ invariant-loop-pack g l =
     let before = g.P.AnyPlayer.played l.initial.player in
     let now = g.P.AnyPlayer.played l.player in
     record {
-      told : l.watch
+      reported : l.watch
           ≡ run_state sees (watch_from (standing_on before).h (standing_on before).v)
           (map instruction_of (take l.pack-index l.packs));
       draws : DrawsPacks (take l.pack-index l.packs) before now;

@@ -7,7 +7,7 @@ use Rattle.cdg_screen.specs.Standing.{Standing, standing_after}
 use Rattle.cdg_screen.proofs.Turns.{in_turn}
 use Rattle.stream_stages.specs.Steps.{words_give}
 use Rattle.live_player.specs.Lives.{Given, Fed, HasPlayed, drawn_for, instructions_in, standing_on}
-use Rattle.live_player.specs.Changes.{changes_on, sees, watch_from, AreDrawnFor, KeepsUntold}
+use Rattle.live_player.specs.Changes.{changes_on, sees, watch_from, AreDrawnFor, KeepsUnchanged}
 use Rattle.live_player.specs.declared.change.ScreenChange.{ScreenChange}
 use Rattle.live_player.specs.declared.watch.Watch.{Watch}
 use Rattle.live_player.specs.Taken.{instructions_from, TakesBlocks}
@@ -20,7 +20,7 @@ pub loop-block-init : goal.loop-block-init
 loop-block-init g c =
     let before = g.P.AnyPlayer.played c.args.player.now in
     record {
-      told = (
+      reported = (
         c.watch_of-watch.ensures.from,
         sym c.watch_of-watch.ensures.whole,
         λ form lead_in given played. sym (append-nil (instructions_in form lead_in given)),
@@ -50,13 +50,13 @@ loop-block-preserved g c =
     c.loop-block.invariant.takes)
     ∙ ap (instructions_from gathered) (sym more) in
     record {
-      told = (
+      reported = (
         c.play_block.ensures.sees
-            ∙ ap (λ (w : Watch). run_state sees w drawn) c.loop-block.invariant.told.0
+            ∙ ap (λ (w : Watch). run_state sees w drawn) c.loop-block.invariant.reported.0
             ∙ sym (run_state-append sees watch before drawn)
             ∙ ap (run_state sees watch) instrs,
         c.play_block.ensures.takes.draws
-            ∙ ap (λ (s : Standing). standing_after s drawn) c.loop-block.invariant.told.1
+            ∙ ap (λ (s : Standing). standing_after s drawn) c.loop-block.invariant.reported.1
             ∙ sym (in_turn start before drawn)
             ∙ ap (standing_after start) instrs,
         λ form lead_in given played.
@@ -65,7 +65,8 @@ loop-block-preserved g c =
             ∙ drawn_next form lead_in (map Fed (reverse (take i blocks)) ++ given) block now
             c.play_block.ensures.size
             (c.loop-block.invariant.fed form lead_in given played)
-            ∙ ap (λ (l : List Instr). l ++ drawn) (c.loop-block.invariant.told.2 form lead_in given played)
+            ∙ ap (λ (l : List Instr). l ++ drawn)
+            (c.loop-block.invariant.reported.2 form lead_in given played)
             ∙ append_assoc (instructions_in form lead_in given) before drawn
             ∙ ap (λ (l : List Instr). instructions_in form lead_in given ++ l) instrs,
       );
@@ -100,19 +101,19 @@ returns g c =
           (c.loop-block.invariant.fed form lead_in given played);
       drawn =
           subst (λ (l : List (List ℕ)). AreDrawnFor l first (instructions_from first.words l)) whole
-          c.loop-block.invariant.told.2;
+          c.loop-block.invariant.reported.2;
       reports = record {
-        told =
-            ap (λ (w : Watch). w.change) c.loop-block.invariant.told.0
+        reported =
+            ap (λ (w : Watch). w.change) c.loop-block.invariant.reported.0
             ∙ ap (λ (l : List (List ℕ)). changes_on start (instructions_from first.words l)) whole;
         stands =
-            c.loop-block.invariant.told.1
+            c.loop-block.invariant.reported.1
             ∙ ap (λ (l : List (List ℕ)). standing_after start (instructions_from first.words l)) whole;
         keeps =
-            subst (λ (it : ScreenChange). KeepsUntold it start (standing_on after))
-            (sym (ap (λ (w : Watch). w.change) c.loop-block.invariant.told.0))
-            (subst (λ (s : Standing). KeepsUntold (changes_on start instrs) start s)
-            (sym c.loop-block.invariant.told.1)
-            (c.untold_stays.ensures start instrs c.watch_of-watch.ensures.whole));
+            subst (λ (it : ScreenChange). KeepsUnchanged it start (standing_on after))
+            (sym (ap (λ (w : Watch). w.change) c.loop-block.invariant.reported.0))
+            (subst (λ (s : Standing). KeepsUnchanged (changes_on start instrs) start s)
+            (sym c.loop-block.invariant.reported.1)
+            (c.unchanged_stays.ensures start instrs c.watch_of-watch.ensures.whole));
       };
     }

@@ -13,7 +13,7 @@ invariant-loop-block g l =
     let now = g.P.AnyPlayer.played l.player in
     let instrs = instructions_from before.words (take l.block-index l.blocks) in
     record {
-      told : (l.watch ≡ run_state sees (watch_from (standing_on before).h (standing_on before).v) instrs)
+      reported : (l.watch ≡ run_state sees (watch_from (standing_on before).h (standing_on before).v) instrs)
           × (standing_on now ≡ standing_after (standing_on before) instrs)
           × AreDrawnFor (take l.block-index l.blocks) before instrs;
       takes : TakesBlocks (take l.block-index l.blocks) before now;

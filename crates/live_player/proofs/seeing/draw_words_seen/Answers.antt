@@ -16,7 +16,7 @@ use Rattle.live_player.proofs.LiveViews.{instructions_append, word_counted, word
 use Rattle.live_player.proofs.seeing.draw_words_seen.Goals as goal
 
 pub loop-word-init : goal.loop-word-init
-loop-word-init c = record { drawn = sym c.what_stands_is_whole.ensures; bad = refl; told = refl }
+loop-word-init c = record { drawn = sym c.what_stands_is_whole.ensures; bad = refl; reported = refl }
 
 pub loop-word-preserved : goal.loop-word-preserved
 loop-word-preserved c =
@@ -37,10 +37,10 @@ loop-word-preserved c =
           word_counted _ _ (take i items) _ c.loop-word.invariant.bad
           (omega (arith, c.loop-word.invariant.bad, none_near, size, taken, few)) c.draw_word_seen.ensures.bad
           ∙ ap (λ (l : List (List ℕ)). bad_count (map finding l)) (sym more);
-      told =
+      reported =
           c.draw_word_seen.ensures.sees
           ∙ ap (λ (w : Watch). run_state sees w (instructions_of (c.word-item.result ∷ [])))
-          c.loop-word.invariant.told
+          c.loop-word.invariant.reported
           ∙ sym (run_state-append sees c.args.watch.now (instructions_of (take i items))
           (instructions_of (c.word-item.result ∷ [])))
           ∙ ap (run_state sees c.args.watch.now) (sym (instructions_append (take i items)
@@ -64,7 +64,7 @@ returns-clause-bad c =
 
 pub returns-clause-sees : goal.returns-clause-sees
 returns-clause-sees c =
-    c.loop-word.invariant.told
+    c.loop-word.invariant.reported
     ∙ ap (λ (l : List (List ℕ)). run_state sees c.args.watch.now (instructions_of l))
     (take_all c.loop-word.word-index c.as_slice-word-items.result.now (omega arith)
     ∙ c.as_slice-word-items.ensures.value)

@@ -13,5 +13,5 @@ invariant-loop-word l = record {
   drawn : seen l.screen
       ≡ standing_after (seen l.fn.screen) (instructions_of (take l.word-index l.word-items));
   bad : l.bad ≡ bad_count (map finding (take l.word-index l.word-items));
-  told : l.watch ≡ run_state sees l.fn.watch (instructions_of (take l.word-index l.word-items));
+  reported : l.watch ≡ run_state sees l.fn.watch (instructions_of (take l.word-index l.word-items));
 }

@@ -6,5 +6,6 @@ returns-clause-streams c words lead_in readings others said saying found other s
     same_stream words lead_in readings others said saying found other stream turned
 
 pub returns-clause-calls : goal.returns-clause-calls
-returns-clause-calls c count lead_in readings others old new turned old_sources sources named told retold =
-    same_calls count lead_in readings others old new turned old_sources sources named told retold
+returns-clause-calls c count lead_in readings others old new turned old_sources sources named reported
+    reported_too =
+    same_calls count lead_in readings others old new turned old_sources sources named reported reported_too

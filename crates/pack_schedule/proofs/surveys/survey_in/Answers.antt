@@ -27,12 +27,12 @@ returns-in_err-change-clause-late c =
     let needs : NeedsAreFewest = record { change = n.change; planned = n.planned; late = n.late } in
     let script = c.args.script.now in
     let known = c.pictures-pictures.ensures in
-    let told = c.in_err-change.ensures.late in
+    let reported = c.in_err-change.ensures.late in
     let stop : IsLatePicture script c.in_err-change.field-0.0 =
-    subst (IsLatePicture script) (sym told.0) (is_late needs script c.loop-k.k _ _ c.loop-k.planned.items
+    subst (IsLatePicture script) (sym reported.0) (is_late needs script c.loop-k.k _ _ c.loop-k.planned.items
     (record { border = known.borders; colour = known.colours }) known.pixels
     (omega (arith, known.value))
-    c.loop-k.invariant.0 refl refl told.1) in
+    c.loop-k.invariant.0 refl refl reported.1) in
     let p = err_from_is_err_and c.from_residual.result c.from_residual.ensures.1 in
     rw (p.1, p.2) stop
 

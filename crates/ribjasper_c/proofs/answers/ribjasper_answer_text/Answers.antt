@@ -2,7 +2,7 @@ use Rattle.std.proofs.Common.{◌∙◌, ◌++◌, ℕ, ℤ, List, ap, drop, len
 use Rattle.std.specs.Prelude.{replicate}
 use Rattle.std.proofs.Math.Facts.{to_z-of_z}
 use Rattle.std.proofs.lemmas.List.{drop-replicate}
-use Rattle.ribjasper_c.specs.Telling.{answer_text}
+use Rattle.ribjasper_c.specs.Reporting.{answer_text}
 use Rattle.ribjasper_c.proofs.answers.ribjasper_answer_text.Goals as goal
 
 pub returns : goal.returns

@@ -19,8 +19,8 @@ returns-in-Err-clause-writes c =
       refused = search rules;
       whole = search rules;
       small = search rules;
-      texts = refused_texts form c.args.lead_in stream c.in-Err.fault _ c.refuse.new.told
-          (fault_or_short c.in-Err.fault _ fault) same c.refuse.ensures.told;
+      texts = refused_texts form c.args.lead_in stream c.in-Err.fault _ c.refuse.new.listed
+          (fault_or_short c.in-Err.fault _ fault) same c.refuse.ensures.listed;
       memory = gives_texts c.in-Err.fault _ (texts_of_lead_in form c.args.lead_in stream) fault same;
       answer = search rules;
       untouched = search rules;

@@ -1,6 +1,6 @@
 use Rattle.std.proofs.Common.{◌∙◌, ap}
 use Rattle.rw_mend.specs.declared.candidates.Candidate.TheVariants.{Near}
-use Rattle.rw_mend.proofs.Hearing.{partly_idle, silent_is, whole_idle}
+use Rattle.rw_mend.proofs.Decoding.{partly_idle, silent_is, whole_idle}
 use Rattle.rw_mend.proofs.candidates.decode_blank.Goals as goal
 
 pub returns-in-Unread : goal.returns-in-Unread

@@ -11,8 +11,10 @@ returns-clause-text c words programs others said saying found other =
     reordered_text words programs others said saying found other
 
 pub returns-clause-many : goal.returns-clause-many
-returns-clause-many c count lead_in readings others old new turned old_sources sources named told retold =
-    reordered_many count lead_in readings others old new turned old_sources sources named told retold
+returns-clause-many c count lead_in readings others old new turned old_sources sources named reported
+    reported_too =
+    reordered_many count lead_in readings others old new turned old_sources sources named reported
+    reported_too
 
 pub returns-clause-dropped : goal.returns-clause-dropped
 returns-clause-dropped c words programs others r k count again =

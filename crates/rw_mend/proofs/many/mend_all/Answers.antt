@@ -5,7 +5,7 @@ use Rattle.rw_mend.specs.Steps.{AreReported, IsMendedTo}
 use Rattle.rw_mend.proofs.Coming.{candidates_are}
 use Rattle.rw_mend.proofs.Losing.{few_losses, losses_more, no_losses}
 use Rattle.rw_mend.proofs.Running.{mended_next, none_done}
-use Rattle.rw_mend.proofs.Telling.{has_source, tally_few, told_more}
+use Rattle.rw_mend.proofs.Reporting.{has_source, tally_few, reported_more}
 use Rattle.rw_mend.proofs.many.mend_all.Goals as goal
 
 pub loop-n-init : goal.loop-n-init
@@ -65,7 +65,7 @@ loop-n-preserved c =
     found
     c.loop-n.invariant.done said c.mend-found.ensures c.put.ensures.size c.put.ensures.packs
     (λ before before_found said_size found_size was. (
-      told_more c.args.sources.now all n c.loop-n.sources c.put_source.new.sources c.loop-n.tallies
+      reported_more c.args.sources.now all n c.loop-n.sources c.put_source.new.sources c.loop-n.tallies
           c.add.new.self candidates found within c.put_source.ensures.size c.put_source.ensures.put
           c.add.ensures before before_found said_size found_size was.0,
       losses_more n c.loop-n.lost c.count_lost.new.lost candidates found c.count_lost.ensures.size

@@ -5,15 +5,15 @@ use Rattle.rw_mend.proofs.Missing.{match_not, match_true}
 use Rattle.rw_mend.proofs.Quiet.{row_graphics}
 use Rattle.rw_mend.proofs.silences.has_graphics_here.Goals as goal
 
-pub returns-then-is_any_graphics-clause-told : goal.returns-then-is_any_graphics-clause-told
-returns-then-is_any_graphics-clause-told c programs size rows =
+pub returns-then-is_any_graphics-clause-reported : goal.returns-then-is_any_graphics-clause-reported
+returns-then-is_any_graphics-clause-reported c programs size rows =
     let holds : c.is_any_graphics.result ≡ true = search rules in
     match_true c.is_any_graphics.result (HasGraphics programs c.args.n) holds
     (row_graphics programs c.args.n c.args.row.now c.is_any_graphics.result size rows
     c.is_any_graphics.ensures)
 
-pub returns-clause-told : goal.returns-clause-told
-returns-clause-told c programs size rows =
+pub returns-clause-reported : goal.returns-clause-reported
+returns-clause-reported c programs size rows =
     let fails : c.is_any_graphics.result ≡ false = search rules in
     match_not c.is_any_graphics.result (HasGraphics programs c.args.n) fails
     (row_graphics programs c.args.n c.args.row.now c.is_any_graphics.result size rows

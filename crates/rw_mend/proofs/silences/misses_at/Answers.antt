@@ -11,8 +11,8 @@ use Rattle.rw_mend.proofs.Reading.{program_at}
 use Rattle.rw_mend.proofs.Unread.{reading-coverage}
 use Rattle.rw_mend.proofs.silences.misses_at.Goals as goal
 
-pub returns-then-eq-clause-told : goal.returns-then-eq-clause-told
-returns-then-eq-clause-told c misses =
+pub returns-then-eq-clause-reported : goal.returns-then-eq-clause-reported
+returns-then-eq-clause-reported c misses =
     let program = c.args.program.now in
     let m = c.args.m in
     let is = c.requires.program ∙ sym (program_at c.args.readings.now c.args.r c.requires.reading) in
@@ -23,8 +23,8 @@ returns-then-eq-clause-told c misses =
     ∙ ap (λ p. is_idle_candidate (candidate_of (reading_at p m))) is
     ∙ misses.idle)
 
-pub returns-clause-told : goal.returns-clause-told
-returns-clause-told c =
+pub returns-clause-reported : goal.returns-clause-reported
+returns-clause-reported c =
     let programs = programs_in c.args.readings.now in
     let program = c.args.program.now in
     let r = c.args.r in
@@ -41,4 +41,4 @@ returns-clause-told c =
     ∙ c.requires.quiet in
     match_other c.has_graphics_at.result (HasGraphics programs m) (Misses programs r m)
     (λ graphics. record { idle = idle; graphics = graphics }) (λ misses. misses.graphics)
-    c.has_graphics_at.ensures.told
+    c.has_graphics_at.ensures.reported

@@ -7,20 +7,21 @@ use Rattle.rw_mend.proofs.Missing.{match_not, match_true}
 use Rattle.rw_mend.proofs.Quiet.{idle_misses}
 use Rattle.rw_mend.proofs.silences.misses_here.Goals as goal
 
-pub returns-then-not-has_graphics_here-clause-told : goal.returns-then-not-has_graphics_here-clause-told
-returns-then-not-has_graphics_here-clause-told c programs size rows misses =
+pub returns-then-not-has_graphics_here-clause-reported
+    : goal.returns-then-not-has_graphics_here-clause-reported
+returns-then-not-has_graphics_here-clause-reported c programs size rows misses =
     let fails : c.has_graphics_here.result ≡ false = search rules in
     match_not c.has_graphics_here.result (HasGraphics programs c.args.n) fails
-    (c.has_graphics_here.ensures.told programs size rows) misses.graphics
+    (c.has_graphics_here.ensures.reported programs size rows) misses.graphics
 
-pub returns-clause-told : goal.returns-clause-told
-returns-clause-told c programs size rows =
+pub returns-clause-reported : goal.returns-clause-reported
+returns-clause-reported c programs size rows =
     let r = c.args.r in
     let row = c.args.row.now in
     let holds : c.has_graphics_here.result ≡ true = search rules in
     idle_misses programs r c.args.n c.is_idle.result
     (match_true c.has_graphics_here.result (HasGraphics programs c.args.n) holds
-    (c.has_graphics_here.ensures.told programs size rows))
+    (c.has_graphics_here.ensures.reported programs size rows))
     (c.is_idle.ensures
     ∙ ap is_idle_candidate
     (c.index-row-r.is ∙ get_or_default row r c.index-row-r.result Silent c.requires.reading

@@ -26,7 +26,7 @@ returns-then-misses_here c =
             subst (λ j. is_quiet_candidate (given_at programs c.args.r j) ≡ true) (omega (arith, from, to))
             c.requires.quiet;
         misses = match_true c.misses_here.result (Misses programs c.args.r c.args.n) holds
-            (c.misses_here.ensures.told programs size c.requires.row);
+            (c.misses_here.ensures.reported programs size c.requires.row);
       };
       calm = c.misses_here.ensures.calm programs size c.requires.row c.requires.calm;
     }
@@ -39,7 +39,7 @@ loop-m-init c =
     let fails : c.misses_here.result ≡ false = search rules in
     let none : ¬ Misses programs c.args.r c.args.n =
     match_not c.misses_here.result (Misses programs c.args.r c.args.n) fails
-    (c.misses_here.ensures.told programs size c.requires.row) in
+    (c.misses_here.ensures.reported programs size c.requires.row) in
     record {
       from = omega arith;
       quiet =
@@ -95,7 +95,7 @@ returns-then-misses_at-clause-will c =
             | inl same ↦ subst (λ j. is_quiet_candidate (given_at programs r j) ≡ true) (sym same) here
             | inr differs ↦ c.loop-m.invariant.quiet k from (omega (arith, to, differs))
           ];
-      misses = match_true c.misses_at.result (Misses programs r m) holds c.misses_at.ensures.told;
+      misses = match_true c.misses_at.result (Misses programs r m) holds c.misses_at.ensures.reported;
     }
 
 pub misses_at-requires-clause-quiet : goal.misses_at-requires-clause-quiet
@@ -125,7 +125,7 @@ loop-m-preserved c =
     ∙ quiet in
     let fails : c.misses_at.result ≡ false = search rules in
     let none : ¬ Misses programs r m =
-    match_not c.misses_at.result (Misses programs r m) fails c.misses_at.ensures.told in
+    match_not c.misses_at.result (Misses programs r m) fails c.misses_at.ensures.reported in
     record {
       from = omega (arith, c.loop-m.invariant.from);
       quiet =

@@ -5,9 +5,9 @@ use Rattle.rw_merge.specs.Agreement.{IsAgreed}
 use Rattle.rw_merge.proofs.Readings.{agreed_equal, only_one_agreed, reads_agreed}
 use Rattle.rw_merge.proofs.agreement.agree.Goals as goal
 
-pub returns-then-apart-gt-MOST_DOUBTS-clause-agreed : goal.returns-then-apart-gt-MOST_DOUBTS-clause-agreed
-returns-then-apart-gt-MOST_DOUBTS-clause-agreed c w agreed =
-    omega (arith, agreed.few, c.differing-apart.ensures.count, c.if-apart-gt-MOST_DOUBTS.true)
+pub returns-then-apart-gt-MAX_PENALTY-clause-agreed : goal.returns-then-apart-gt-MAX_PENALTY-clause-agreed
+returns-then-apart-gt-MAX_PENALTY-clause-agreed c w agreed =
+    omega (arith, agreed.few, c.differing-apart.ensures.count, c.if-apart-gt-MAX_PENALTY.true)
 
 pub agree_apart-requires : goal.agree_apart-requires
 agree_apart-requires c = record {
@@ -15,7 +15,7 @@ agree_apart-requires c = record {
       let none : differences c.args.a.now c.args.b.now ≡ 0 =
       ap (differences c.args.a.now) (sym same) ∙ differences_self c.args.a.now in
       omega (arith, none, c.differing-apart.ensures.count);
-  few = omega (arith, c.differing-apart.ensures.count, c.if-apart-gt-MOST_DOUBTS.false);
+  few = omega (arith, c.differing-apart.ensures.count, c.if-apart-gt-MAX_PENALTY.false);
   word = c.differing-apart.ensures.first;
 }
 

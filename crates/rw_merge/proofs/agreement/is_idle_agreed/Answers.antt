@@ -12,5 +12,5 @@ returns-clause-agreed c _ =
     let counted = ap (λ (w : List ℕ). 2 * equally_wrong a b w + differences a b) same in
     record {
       is_codeword = subst IsCodeword same c.word-idle.ensures.codeword;
-      few = omega (arith, counted, c.doubts.ensures.count, c.if-doubts-gt-MOST_DOUBTS.false);
+      few = omega (arith, counted, c.penalty.ensures.count, c.if-penalty-gt-MAX_PENALTY.false);
     }

@@ -24,7 +24,7 @@ returns-then-feed_at_hand-clause-asks g c =
       counts = record {
         end = record {
           ended = λ short. absurd (omega (arith, short));
-          goes_on = λ _. counts.untold;
+          goes_on = λ _. counts.unreported;
           failed = tt;
         };
         room = record {

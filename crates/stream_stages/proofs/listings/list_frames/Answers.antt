@@ -5,7 +5,7 @@ use Rattle.cdg_io.proofs.Frames.{machine_of}
 use Rattle.raw_subcode.specs.Channels.{unit_size}
 use Rattle.stream_stages.specs.Watch.{on_units}
 use Rattle.stream_stages.proofs.Ends.{ends_stopped, stops_played}
-use Rattle.stream_stages.proofs.Told.{done_told, stop_told}
+use Rattle.stream_stages.proofs.Reported.{done_reported, stop_reported}
 use Rattle.stream_stages.proofs.Checks.{answered_done, checked_stop}
 use Rattle.stream_stages.proofs.Playing.{done_at, stop_at}
 use Rattle.stream_stages.proofs.QListing.{plays_frames}
@@ -25,7 +25,7 @@ returns-in-Ok g c =
         stops = tt;
         answer = answered_done (unit_size form) _ (record { blocks = c.saturating_sub.result; bad = 0 }) _
             read.reads.answer;
-        faults = done_told _ _ _ _ read.reads.read_fault.later read.write_fault.later _ _
+        faults = done_reported _ _ _ _ read.reads.read_fault.later read.write_fault.later _ _
             read.reads.read_fault.same read.write_fault.same;
         ended = read.reads.ended;
       };
@@ -44,7 +44,8 @@ returns-in-Err g c =
             (plays_frames form _ c.requires.form refl) p;
         stops = stops_played c.in-Err.stop c.play_stop.result c.play_stop.ensures;
         answer = checked_stop (unit_size form) _ _ _ c.play_stop.ensures read.reads.answer;
-        faults = stop_told _ _ _ _ read.reads.read_fault.later read.write_fault.later _ _ c.play_stop.ensures
+        faults =
+            stop_reported _ _ _ _ read.reads.read_fault.later read.write_fault.later _ _ c.play_stop.ensures
             read.reads.read_fault.rose read.reads.read_fault.same read.write_fault.rose read.write_fault.same;
         ended = ends_stopped c.in-Err.stop c.play_stop.result _ _ c.play_stop.ensures read.reads.ended;
       };

@@ -13,10 +13,10 @@ never_late : ((seed count blocks : ℕ) (stop : Stop) → 800 * count + 20 ≤ b
     → (script : List Drawing) (blocks : ℕ) (late : LatePicture)
     → ((seed count : ℕ) × (script ≡ generated_drawings seed count) × (800 * count + 20 ≤ blocks))
     → IsWithin script blocks → IsLatePicture script late → ⊥
-never_late law script blocks late (seed, count, is, le) within told =
+never_late law script blocks late (seed, count, is, le) within reported =
     let no : Late late.picture late.need late.free ≡ NoMemory =
     law seed count blocks (Late late.picture late.need late.free) le
-    (subst (λ s. IsStop s blocks (Late late.picture late.need late.free)) is (within, told)) in
+    (subst (λ s. IsStop s blocks (Late late.picture late.need late.free)) is (within, reported)) in
     absurd (cc)
 
 pub survey_in-requires-clause-end : goal.survey_in-requires-clause-end

@@ -1,11 +1,11 @@
 use Rattle.std.proofs.Common.{arith}
 use Rattle.std.proofs.Math.Logic.{∥∥₁_elim}
-use Rattle.stream_trial.proofs.Room.{accepted_so, room_left, rose_some, size_so, wants_memory}
+use Rattle.stream_trial.proofs.Room.{accepted_so, room_left, rose_some, size_so, allocations_counted}
 use Rattle.stream_trial.proofs.streams.author_run.Goals as goal
 
 pub returns-clause-stop : goal.returns-clause-stop
 returns-clause-stop c =
-    wants_memory c.author_planned.result c.author_planned.ensures.stop (λ failed.
+    allocations_counted c.author_planned.result c.author_planned.ensures.stop (λ failed.
     let (seed, script_is) = c.requires.script in
     let sheet = c.args.sheet.now in
     let script = c.args.script.now in

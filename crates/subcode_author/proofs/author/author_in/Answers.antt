@@ -2,7 +2,7 @@ use Rattle.std.proofs.Common.{ℕ, subst, sym, arith, rules}
 use Rattle.std.proofs.lemmas.Result.{err_from_is_err_and, on_ok_weaker, IfErr-weaker}
 use Rattle.pack_schedule.specs.Survey.{IsPastEnd, IsWithin}
 use Rattle.subcode_author.proofs.Schedules.{is_accepted}
-use Rattle.subcode_author.proofs.PictureStops.{late_told, picture_stop, written_stop}
+use Rattle.subcode_author.proofs.PictureStops.{late_reported, picture_stop, written_stop}
 use Rattle.subcode_author.proofs.author.author_in.Goals as goal
 
 pub plan_script-requires-clause-blocks : goal.plan_script-requires-clause-blocks
@@ -31,8 +31,8 @@ returns-in_err-planned-clause-answer g c =
       accepted = rw p.1 tt;
       fewest = rw p.1 tt;
       stop = rw (p.1, p.2) why;
-      late = λ picture need free told.
-          late_told c.needs_are_fewest.ensures.late c.args.sheet.now c.args.script.now c.args.lead_in
+      late = λ picture need free reported.
+          late_reported c.needs_are_fewest.ensures.late c.args.sheet.now c.args.script.now c.args.lead_in
           c.args.length
           c.in_err-planned.field-0.0 (record { held = known.held; later = known.later })
           (record { border = known.borders; colour = known.colours }) known.pixels why picture need free

@@ -16,7 +16,7 @@ returns-clause-not_both c sheet script lead_in audio stop is h =
     not_refused needs sheet script lead_in audio stop is h
 
 pub returns-clause-one : goal.returns-clause-one
-returns-clause-one c sheet script lead_in audio stop other h h' told told' =
+returns-clause-one c sheet script lead_in audio stop other h h' reported reported' =
     let p = c.needs_are_fewest.ensures in
     let needs : NeedsAreKnown = record { change = p.change; planned = p.planned; one = p.one } in
-    one_reason needs sheet script lead_in audio stop other h h' told told'
+    one_reason needs sheet script lead_in audio stop other h h' reported reported'

@@ -4,7 +4,7 @@ use Rattle.cdg_io.specs.declared.pumping.PumpStop.{PumpStop}
 use Rattle.cdg_checkpoint.specs.Checkpoint.{checkpoint_in}
 use Rattle.cdg_checkpoint.proofs.Reached.{brought_back, goes_on, reached_by, sound_file, torn_by}
 use Rattle.cdg_checkpoint.proofs.Stopping.{ends_as_reached, first_is_not_past, gone_on_to_stop, reached_is_not, write_is_not_past}
-use Rattle.cdg_checkpoint.proofs.OtherStops.{done_no_read, fault_by, is_read, long_by, long_no_first, long_no_read, long_no_second, long_no_write, second_is_not_past, second_no_first, second_no_write, told_by, torn_no_first, torn_no_read, torn_no_second, torn_no_write}
+use Rattle.cdg_checkpoint.proofs.OtherStops.{done_no_read, fault_by, is_read, long_by, long_no_first, long_no_read, long_no_second, long_no_write, second_is_not_past, second_no_first, second_no_write, reported_by, torn_no_first, torn_no_read, torn_no_second, torn_no_write}
 use Rattle.cdg_checkpoint.proofs.checkpointer.Checkpointer.go_on.Goals as goal
 
 abbrev error : PumpStop → Result Pumped PumpStop
@@ -153,7 +153,7 @@ returns-in-ReadFault-clause-fault g c = record {
 
 pub returns-in-ReadFault-clause-ended : goal.returns-in-ReadFault-clause-ended
 returns-in-ReadFault-clause-ended g c = let (taken, w) = c.in-Err.ensures.watches in
-    told_by c.in-Err.stop _ _ _ (is_read c.in-Err.stop c.in-ReadFault.is w.no_write)
+    reported_by c.in-Err.stop _ _ _ (is_read c.in-Err.stop c.in-ReadFault.is w.no_write)
     c.in-Err.ensures.reads.ended
 
 pub returns-in-ReadFault-clause-no_write : goal.returns-in-ReadFault-clause-no_write
@@ -179,7 +179,7 @@ returns-in-Torn-clause-fault g c = record {
 
 pub returns-in-Torn-clause-ended : goal.returns-in-Torn-clause-ended
 returns-in-Torn-clause-ended g c =
-    told_by c.in-Err.stop _ _ _ (ap error c.in-Torn.is) c.in-Err.ensures.reads.ended
+    reported_by c.in-Err.stop _ _ _ (ap error c.in-Torn.is) c.in-Err.ensures.reads.ended
 
 pub returns-in-Torn-clause-no_write : goal.returns-in-Torn-clause-no_write
 returns-in-Torn-clause-no_write g c = torn_no_write _
@@ -208,7 +208,7 @@ returns-in-TooLong-clause-fault g c = record {
 
 pub returns-in-TooLong-clause-ended : goal.returns-in-TooLong-clause-ended
 returns-in-TooLong-clause-ended g c =
-    told_by c.in-Err.stop _ _ _ (ap error c.in-TooLong.is) c.in-Err.ensures.reads.ended
+    reported_by c.in-Err.stop _ _ _ (ap error c.in-TooLong.is) c.in-Err.ensures.reads.ended
 
 pub returns-in-TooLong-clause-no_write : goal.returns-in-TooLong-clause-no_write
 returns-in-TooLong-clause-no_write g c = long_no_write

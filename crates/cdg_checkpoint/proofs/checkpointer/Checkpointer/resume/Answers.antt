@@ -18,8 +18,8 @@ pub returns-in-Err-clause-answer : goal.returns-in-Err-clause-answer
 returns-in-Err-clause-answer g c =
     refused_not_accepted c.in-Err.stop c.args.at c.accept.new.self.file _ c.in-Err.ensures.accepted
 
-pub returns-in-Err-clause-rest_told : goal.returns-in-Err-clause-rest_told
-returns-in-Err-clause-rest_told g c =
+pub returns-in-Err-clause-rest_reported : goal.returns-in-Err-clause-rest_reported
+returns-in-Err-clause-rest_reported g c =
     refused_not_accepted c.in-Err.stop c.args.at c.accept.new.self.file _ c.in-Err.ensures.accepted
 
 pub show-requires-clause-at : goal.show-requires-clause-at
@@ -56,8 +56,8 @@ returns-in-Ok-clause-answer g c =
 pub returns-in-Ok-clause-untouched : goal.returns-in-Ok-clause-untouched
 returns-in-Ok-clause-untouched g c = c.show.ensures.untouched
 
-pub returns-in-Ok-clause-rest_told : goal.returns-in-Ok-clause-rest_told
-returns-in-Ok-clause-rest_told g c = λ ok. c.show.ensures.rest_told
+pub returns-in-Ok-clause-rest_reported : goal.returns-in-Ok-clause-rest_reported
+returns-in-Ok-clause-rest_reported g c = λ ok. c.show.ensures.rest_reported
 
 pub returns-in-Err-clause-rest_untouched : goal.returns-in-Err-clause-rest_untouched
 returns-in-Err-clause-rest_untouched g c = λ refused. refl

@@ -36,8 +36,8 @@ returns-in-Err-clause-answer g c = all_resumed_by _ c.in-Err.stop _ c.args.at c.
 pub returns-in-Err-clause-accepted : goal.returns-in-Err-clause-accepted
 returns-in-Err-clause-accepted g c = c.in-Err.ensures.accepted
 
-pub returns-in-Err-clause-rest_told : goal.returns-in-Err-clause-rest_told
-returns-in-Err-clause-rest_told g c = c.in-Err.ensures.ended
+pub returns-in-Err-clause-rest_reported : goal.returns-in-Err-clause-rest_reported
+returns-in-Err-clause-rest_reported g c = c.in-Err.ensures.ended
 
 pub returns-in-Ok-write_ppm-clause-answer : goal.returns-in-Ok-write_ppm-clause-answer
 returns-in-Ok-write_ppm-clause-answer g c = c.in-Ok.ensures.answer
@@ -77,8 +77,8 @@ returns-in-Ok-write_ppm-clause-write_fault g c = record {
   same = λ other. c.in-Ok-write_ppm.ensures.cause.same;
 }
 
-pub returns-in-Ok-write_ppm-clause-rest_told : goal.returns-in-Ok-write_ppm-clause-rest_told
-returns-in-Ok-write_ppm-clause-rest_told g c = c.in-Ok.ensures.ended
+pub returns-in-Ok-write_ppm-clause-rest_reported : goal.returns-in-Ok-write_ppm-clause-rest_reported
+returns-in-Ok-write_ppm-clause-rest_reported g c = c.in-Ok.ensures.ended
 
 pub returns-in-Err-write_ppm-clause-file : goal.returns-in-Err-write_ppm-clause-file
 returns-in-Err-write_ppm-clause-file g c = c.in-Ok.ensures.file
@@ -109,8 +109,8 @@ returns-in-Err-write_ppm-clause-write_fault g c = record {
   same = λ other. absurd (other refl);
 }
 
-pub returns-in-Err-write_ppm-clause-rest_told : goal.returns-in-Err-write_ppm-clause-rest_told
-returns-in-Err-write_ppm-clause-rest_told g c = c.in-Ok.ensures.ended
+pub returns-in-Err-write_ppm-clause-rest_reported : goal.returns-in-Err-write_ppm-clause-rest_reported
+returns-in-Err-write_ppm-clause-rest_reported g c = c.in-Ok.ensures.ended
 
 pub returns-in-Err-clause-file : goal.returns-in-Err-clause-file
 returns-in-Err-clause-file g c = c.in-Err.ensures.file

@@ -7,7 +7,7 @@ invariant-loop-self g l = record {
   room : length l.chunk ≡ 4096;
   within : length l.self ≤ 65046;
   taken : Consumes (g.S.Source.left l.initial.source) (g.S.Source.left l.source) l.self;
-  told : g.S.Source.ends l.source ≡ g.S.Source.ends l.initial.source;
+  reported : g.S.Source.ends l.source ≡ g.S.Source.ends l.initial.source;
   same : g.S.Source.faults l.source ≡ g.S.Source.faults l.initial.source;
 }
 

@@ -5,7 +5,7 @@ use Rattle.cdg_io.proofs.Bytes.{front_consumed}
 use Rattle.cdg_io.proofs.buffers.BufferedSourceSource.feed_at_hand.Goals as goal
 
 pub returns-clause-fed : goal.returns-clause-fed
-returns-clause-fed g c = λ told.
+returns-clause-fed g c = λ reported.
     let same : c.self.inside.reader ≡ c.args.self.now.inner = ap (λ (v : _). v.inner) c.self.view_is in
     let row = reader_buffer c.self.inside.reader in
     let shown : c.buffer-row.result.now ≡ row = c.buffer-row.ensures in

@@ -1,7 +1,7 @@
 use Rattle.std.proofs.Common.{◌≡◌, ◌⊎◌, Ok, Err, inr, sym, ap, subst, ◌∙◌}
 use Rattle.std.specs.Prelude.{IfOk, IfErr}
 use Rattle.cdtext_packs.specs.declared.kinds.TextFault.TheVariants.{NoMemory, NoSize}
-use Rattle.cdtext_packs.proofs.Finished.{nothing_read, no_first_size, no_second_size, no_third_size, all_sizes, told_as_is}
+use Rattle.cdtext_packs.proofs.Finished.{nothing_read, no_first_size, no_second_size, no_third_size, all_sizes, reported_as_is}
 use Rattle.cdtext_packs.proofs.reader.TextReader.finish.Goals as goal
 
 pub returns-then-keeps_nothing-clause-texts : goal.returns-then-keeps_nothing-clause-texts
@@ -27,7 +27,7 @@ returns-in_default-clause-refused c =
     let read =
     no_first_size c.self.inside.kept c.args.self.now c.self.view_is
     c.if-keeps_nothing.ensures c.in_default.ensures in
-    told_as_is _ NoSize read
+    reported_as_is _ NoSize read
 
 pub returns-in_default-size_pack-clause-fault : goal.returns-in_default-size_pack-clause-fault
 returns-in_default-size_pack-clause-fault c =
@@ -39,7 +39,7 @@ returns-in_default-size_pack-clause-refused c =
     let read =
     no_second_size c.self.inside.kept c.args.self.now _ c.self.view_is
     c.if-keeps_nothing.ensures c.in-Some.ensures c.in_default-size_pack.ensures in
-    told_as_is _ NoSize read
+    reported_as_is _ NoSize read
 
 pub returns-then-is_none-clause-fault : goal.returns-then-is_none-clause-fault
 returns-then-is_none-clause-fault c =
@@ -53,7 +53,7 @@ returns-then-is_none-clause-refused c =
     no_third_size c.self.inside.kept c.args.self.now _ _ c.size_pack-3.result
     c.self.view_is c.if-keeps_nothing.ensures c.in-Some.ensures
     c.in-Some-size_pack.ensures c.size_pack-3.ensures c.if-is_none.ensures in
-    told_as_is _ NoSize read
+    reported_as_is _ NoSize read
 
 pub returns-clause-texts : goal.returns-clause-texts
 returns-clause-texts c =

@@ -26,6 +26,7 @@ returns-in-None-clause-fed c form lead_in given played =
 
 pub returns-in-None-clause-words : goal.returns-in-None-clause-words
 returns-in-None-clause-words c form lead_in given played =
-    no_words form lead_in (blocks_in given) c.args.block.now c.args.self.now.words c.told-block played.sized
+    no_words form lead_in (blocks_in given) c.args.block.now c.args.self.now.words c.told-block
+    played.sized
     played.gathers (sym c.in-None.is ∙ c.step.ensures.gives)
     ∙ ap (λ (l : List (List ℕ)). stream_words form lead_in (blocks_in given) ++ l) (sym c.new.ensures)

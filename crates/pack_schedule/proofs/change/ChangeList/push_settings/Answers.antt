@@ -4,7 +4,7 @@ use Rattle.bit_lists.specs.Counting.{below}
 use Rattle.cdg_instructions.specs.declared.instr.Instr.TheVariants.{BorderPreset, ColoursLow, ColoursHigh}
 use Rattle.picture_script.specs.Board.{Board}
 use Rattle.pack_schedule.specs.Change.{settings}
-use Rattle.pack_schedule.proofs.PlanLists.{IsAppended, all_appended, told_other, told_same}
+use Rattle.pack_schedule.proofs.PlanLists.{IsAppended, all_appended, reported_other, reported_same}
 use Rattle.pack_schedule.proofs.Short.{settings_few}
 use Rattle.pack_schedule.proofs.change.ChangeList.push_settings.Goals as goal
 use Rattle.pack_schedule.proofs.change.ChangeList.push_settings.Goals.{then-k-eq0, then-k-eq0-via-then-k-eq0, then-k-eq0-via-else-k-eq0+then-border, else-k-eq0+else-border, then-k-eq0-2, then-k-eq0-2-via-then-k-eq0-2, then-k-eq0-2-via-else-k-eq0-2+then-ne, else-k-eq0-2+else-ne, then-k-eq0-3-via-then-k-eq0-3, then-k-eq0-3-via-else-k-eq0-3+then-ne-2}
@@ -38,14 +38,15 @@ returns-then-k-eq0-3-clause-whole c =
         λ pos. elim w.then-k-eq0-2.branch [
           | then-k-eq0-2-via-then-k-eq0-2 v ↦ absurd (omega (arith, pos, v.if-k-eq0-2.true))
           | then-k-eq0-2-via-else-k-eq0-2+then-ne v ↦
-              told_other v.ne.result v.colours.result c.colours-low.result low v.ne.ensures v.colours.ensures
+              reported_other v.ne.result v.colours.result c.colours-low.result low v.ne.ensures
+              v.colours.ensures
               v.if-ne.true
         ],
       )
       | else-k-eq0-2+else-ne w ↦ inr (
         w.self-is,
         omega (arith, w.if-k-eq0-2.false),
-        told_same w.ne.result w.colours.result c.colours-low.result low w.ne.ensures w.colours.ensures
+        reported_same w.ne.result w.colours.result c.colours-low.result low w.ne.ensures w.colours.ensures
             w.if-ne.false,
       )
     ] in
@@ -55,7 +56,7 @@ returns-then-k-eq0-3-clause-whole c =
       λ pos. elim c.then-k-eq0-3.branch [
         | then-k-eq0-3-via-then-k-eq0-3 v ↦ absurd (omega (arith, pos, v.if-k-eq0-3.true))
         | then-k-eq0-3-via-else-k-eq0-3+then-ne-2 v ↦
-            told_other v.ne-else-k-eq0-3.result v.colours-else-k-eq0-3.result c.colours-high.result high
+            reported_other v.ne-else-k-eq0-3.result v.colours-else-k-eq0-3.result c.colours-high.result high
             v.ne-else-k-eq0-3.ensures v.colours-else-k-eq0-3.ensures v.if-ne-2.true
       ],
     ) in
@@ -100,14 +101,15 @@ returns-else-ne-2-clause-whole c =
         λ pos. elim w.then-k-eq0-2.branch [
           | then-k-eq0-2-via-then-k-eq0-2 v ↦ absurd (omega (arith, pos, v.if-k-eq0-2.true))
           | then-k-eq0-2-via-else-k-eq0-2+then-ne v ↦
-              told_other v.ne.result v.colours.result c.colours-low.result low v.ne.ensures v.colours.ensures
+              reported_other v.ne.result v.colours.result c.colours-low.result low v.ne.ensures
+              v.colours.ensures
               v.if-ne.true
         ],
       )
       | else-k-eq0-2+else-ne w ↦ inr (
         w.self-is,
         omega (arith, w.if-k-eq0-2.false),
-        told_same w.ne.result w.colours.result c.colours-low.result low w.ne.ensures w.colours.ensures
+        reported_same w.ne.result w.colours.result c.colours-low.result low w.ne.ensures w.colours.ensures
             w.if-ne.false,
       )
     ] in
@@ -115,7 +117,7 @@ returns-else-ne-2-clause-whole c =
     c.if-k-eq0-2.self c.if-k-eq0-2.self = inr (
       refl,
       omega (arith, c.if-k-eq0-3.false),
-      told_same c.ne-else-k-eq0-3.result c.colours-else-k-eq0-3.result c.colours-high.result high
+      reported_same c.ne-else-k-eq0-3.result c.colours-else-k-eq0-3.result c.colours-high.result high
           c.ne-else-k-eq0-3.ensures c.colours-else-k-eq0-3.ensures c.if-ne-2.false,
     ) in
     all_appended c.args.script.now k old c.args.now.now c.border-border.result c.colours-low.result

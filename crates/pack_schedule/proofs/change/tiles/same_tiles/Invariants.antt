@@ -1,5 +1,5 @@
-use Rattle.pack_schedule.proofs.SameTileLaws.{AreToldSoFar}
+use Rattle.pack_schedule.proofs.SameTileLaws.{MarksSoFar}
 use Rattle.pack_schedule.proofs.change.tiles.same_tiles.Given as goal
 
 abbrev pub invariant-loop-r : goal.invariant-loop-r
-invariant-loop-r l = AreToldSoFar l.before.pixels l.now.pixels l.r l.told
+invariant-loop-r l = MarksSoFar l.before.pixels l.now.pixels l.r l.marks

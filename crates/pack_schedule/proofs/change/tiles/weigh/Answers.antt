@@ -2,7 +2,7 @@ use Rattle.std.proofs.Common.{ℕ, ◌≢◌, ◌≡◌, ◌<◌, replicate, sub
 use Rattle.std.specs.Prelude.{MatchOption}
 use Rattle.cdg_instructions.specs.Instruction.{IsTilePixels}
 use Rattle.pack_schedule.proofs.PlannedLaws.{PlansAreShortest}
-use Rattle.pack_schedule.proofs.Counting.{single_told, weighed}
+use Rattle.pack_schedule.proofs.Counting.{single_reported, weighed}
 use Rattle.pack_schedule.proofs.change.tiles.weigh.Goals as goal
 
 pub returns-clause-weighed : goal.returns-clause-weighed
@@ -16,6 +16,6 @@ returns-clause-weighed c =
     (λ single.
     MatchOption single ((k : ℕ) → tile ≢ replicate 72 k) (λ k. (k < 16) × (tile ≡ replicate 72 k)))
     (sym c.then_some.ensures)
-    (single_told tile c.pixels-pixels.result.now c.eq-is_single.result pixels.tile pixels.same
+    (single_reported tile c.pixels-pixels.result.now c.eq-is_single.result pixels.tile pixels.same
     c.eq-is_single.ensures))
     c.weight.ensures.most c.weight.ensures.least c.weight.ensures.none

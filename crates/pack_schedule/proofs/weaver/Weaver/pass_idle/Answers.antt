@@ -31,7 +31,7 @@ returns-clause-passes c = (
 )
 
 pub returns-clause-idle : goal.returns-clause-idle
-returns-clause-idle c = λ told n lt.
+returns-clause-idle c = λ reported n lt.
     let self = c.self.inside in
     let at_hand = c.skip_sent.new.self in
     let w = c.skip_sent.ensures.weaving in

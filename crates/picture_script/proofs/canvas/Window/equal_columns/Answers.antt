@@ -5,7 +5,7 @@ use Rattle.picture_script.proofs.canvas.Window.equal_columns.Goals as goal
 
 pub loop-j-init : goal.loop-j-init
 loop-j-init c x lt = (
-  (λ told m m_lt. absurd (omega (arith, m_lt))),
+  (λ reported m m_lt. absurd (omega (arith, m_lt))),
   (λ all. get_or-replicate 288 x true false lt),
 )
 

@@ -3,7 +3,7 @@ use Rattle.std.specs.Prelude.{take}
 use Rattle.picture_script.specs.Script.{Picture, drawn_by, lines_before}
 use Rattle.picture_script.specs.Lines.{said}
 use Rattle.picture_script.proofs.Drawn.{before-most, kept_at, length-all_said, next_said, said_at}
-use Rattle.picture_script.proofs.RowMarks.{between_pictures, one_line_more, told_between}
+use Rattle.picture_script.proofs.RowMarks.{between_pictures, one_line_more, reported_between}
 use Rattle.picture_script.proofs.Scripts.{before_rising}
 use Rattle.picture_script.proofs.script.Script.drawn_rows.Goals as goal
 
@@ -43,10 +43,10 @@ loop-i-preserved c =
           let next =
           next_said pixels lines script i c.index.result.now c.self.view_is inside c.index.ensures in
           c.loop-i.invariant.leaves r x y left.0 at ∙ left.1 ∙ ap (λ (p : Picture). p.pixel x y) next;
-      marks = λ r told. one_line_more script c.place-from.result i r _ (said pixels c.index.result.now)
+      marks = λ r reported. one_line_more script c.place-from.result i r _ (said pixels c.index.result.now)
           (omega arith)
           (said_at pixels lines script i c.index.result.now c.self.view_is inside c.index.ensures)
-          c.loop-i.invariant.marks (c.mark_line.ensures.marks pixels r told);
+          c.loop-i.invariant.marks (c.mark_line.ensures.marks pixels r reported);
     }
 
 pub returns-clause-keeps : goal.returns-clause-keeps
@@ -58,11 +58,11 @@ returns-clause-keeps c =
     between_pictures script c.args.k c.place-from.result c.loop-i.i c.loop-i.rows
     (omega (arith, c.if-k-eq0.false)) c.place-from.ensures end c.loop-i.invariant.leaves
 
-pub returns-clause-tells : goal.returns-clause-tells
-returns-clause-tells c =
+pub returns-clause-drawn : goal.returns-clause-drawn
+returns-clause-drawn c =
     let script = c.args.self.now in
     let rising = before_rising script (c.args.k - 1) c.args.k (omega arith) in
     let end : c.loop-i.i ≡ length (lines_before script c.args.k) =
     omega (arith, c.place-from.ensures, c.place-i-end.ensures, rising) in
-    told_between script c.args.k c.place-from.result c.loop-i.i c.loop-i.rows c.place-from.ensures end
+    reported_between script c.args.k c.place-from.result c.loop-i.i c.loop-i.rows c.place-from.ensures end
     c.loop-i.invariant.marks

@@ -1,6 +1,6 @@
 use Rattle.std.proofs.Common.{◌<◌, ◌∙◌, ap, rules}
 use Rattle.rw_mend.specs.Tallies.{source_byte, source_number}
-use Rattle.rw_mend.proofs.Telling.{tally_reading}
+use Rattle.rw_mend.proofs.Reporting.{tally_reading}
 use Rattle.rw_mend.proofs.tallies.Tallies.add.Goals as goal
 
 pub returns-in-Reading : goal.returns-in-Reading

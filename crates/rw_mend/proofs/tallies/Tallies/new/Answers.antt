@@ -1,5 +1,5 @@
 use Rattle.std.proofs.Common.{refl}
-use Rattle.rw_mend.proofs.Telling.{no_tallies}
+use Rattle.rw_mend.proofs.Reporting.{no_tallies}
 use Rattle.rw_mend.proofs.tallies.Tallies.new.Goals as goal
 
 pub returns : goal.returns

@@ -18,8 +18,8 @@ loop-block-init g c = record {
   no_first_fault = refl;
   no_second_fault = refl;
   no_write_fault = refl;
-  first_told = refl;
-  second_told = refl;
+  first_reported = refl;
+  second_reported = refl;
   first_rooms = ((λ _. refl), λ some. absurd (omega (arith, some)));
   second_rooms = ((λ _. refl), λ some. absurd (omega (arith, some)));
 }
@@ -41,8 +41,8 @@ returns-in-Ok-false-clause-merges g c =
           ends c.args.lead_in c.loop-block.block _ _ _ _ _ _ _ _ _ _ xs ys _ _ works none none'
           (omega (arith, c.loop-block-test.true)) c.saturating_sub.ensures;
       ended = (
-        rose_once_since before.first_told pair.ended.0,
-        rose_once_since before.second_told pair.ended.1,
+        rose_once_since before.first_reported pair.ended.0,
+        rose_once_since before.second_reported pair.ended.1,
       );
       filled =
           blocks_filled c.loop-block.block xs _ _ _ _ sizes.first_size (omega (arith, ap length none))
@@ -79,7 +79,8 @@ returns-in-Err-clause-merges g c =
           pair_stops c.args.lead_in c.loop-block.block _ _ _ _ _ _ _ _ _ _ _ xs ys _ _ c.in-Err.stop works
           pair.said.0 c.loop-block-test.true;
       ended =
-          stop_since _ _ _ _ _ _ before.first_told before.second_told (c.loop-block.block * 96) _ _ _ _
+          stop_since _ _ _ _ _ _ before.first_reported before.second_reported (c.loop-block.block * 96) _ _ _
+          _
           (omega (arith, length-append xs pair.taken, sizes.first_size))
           (omega (arith, length-append ys pair.other_taken, sizes.second_size)) c.in-Err.stop pair.ended;
       filled =
@@ -117,8 +118,8 @@ returns-in-Ok-nothing_follows-clause-merges g c =
           ends c.args.lead_in c.loop-block.block _ _ _ _ _ _ _ _ _ _ xs ys _ _ works none none'
           (omega (arith, c.loop-block.auto.block-end)) (omega (arith, all));
       ended = (
-        rose_once_since before.first_told pair.ended.0,
-        rose_once_since before.second_told pair.ended.1,
+        rose_once_since before.first_reported pair.ended.0,
+        rose_once_since before.second_reported pair.ended.1,
       );
       filled =
           byte_filled_after c.loop-block.block xs _ _ _ _ sizes.first_size (omega (arith, ap length none)) all
@@ -158,7 +159,8 @@ returns-in-Err-nothing_follows-clause-merges g c =
           end_stops c.args.lead_in c.loop-block.block _ _ _ _ _ _ _ _ _ _ _ xs ys _ _
           c.in-Err-nothing_follows.stop works pair.said all;
       ended =
-          stop_since _ _ _ _ _ _ before.first_told before.second_told (c.loop-block.block * 96) _ _ _ _
+          stop_since _ _ _ _ _ _ before.first_reported before.second_reported (c.loop-block.block * 96) _ _ _
+          _
           (omega (arith, length-append xs pair.taken, sizes.first_size))
           (omega (arith, length-append ys pair.other_taken, sizes.second_size))
           c.in-Err-nothing_follows.stop pair.ended;
@@ -202,7 +204,7 @@ returns-in-Err-put_all-clause-merges g c =
       said =
           write_stops c.args.lead_in c.loop-block.block _ _ _ _ _ _ _ _ _ _ _ _ _ xs ys _ _ _ works u_size
           v_size c.if-block-lead_in.true c.loop-block-test.true found c.in-Err-put_all.ensures.part;
-      ended = (pair.ended.0 ∙ before.first_told, pair.ended.1 ∙ before.second_told);
+      ended = (pair.ended.0 ∙ before.first_reported, pair.ended.1 ∙ before.second_reported);
       filled =
           blocks_filled c.loop-block.block xs _ _ _ _ sizes.first_size (omega (arith, u_size))
           c.loop-block-test.true before.first_rooms pair.filled;
@@ -253,8 +255,8 @@ loop-block-preserved g c =
                 ap g.K.Sink.faults w.out-is
                 ∙ w.in-Ok.ensures.cause.same
                 ∙ (c.in-Ok-true.ensures.no_write_fault ∙ before.no_write_fault);
-            first_told = pair.ended.0 ∙ before.first_told;
-            second_told = pair.ended.1 ∙ before.second_told;
+            first_reported = pair.ended.0 ∙ before.first_reported;
+            second_reported = pair.ended.1 ∙ before.second_reported;
             first_rooms = first_rooms;
             second_rooms = second_rooms;
           }
@@ -274,8 +276,8 @@ loop-block-preserved g c =
             no_second_fault = c.in-Ok-true.ensures.faults.1 ∙ before.no_second_fault;
             no_write_fault =
                 ap g.K.Sink.faults w.out-is ∙ (c.in-Ok-true.ensures.no_write_fault ∙ before.no_write_fault);
-            first_told = pair.ended.0 ∙ before.first_told;
-            second_told = pair.ended.1 ∙ before.second_told;
+            first_reported = pair.ended.0 ∙ before.first_reported;
+            second_reported = pair.ended.1 ∙ before.second_reported;
             first_rooms = first_rooms;
             second_rooms = second_rooms;
           }

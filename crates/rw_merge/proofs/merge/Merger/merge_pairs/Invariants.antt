@@ -13,8 +13,8 @@ invariant-loop-block g l = record {
   no_first_fault : g.S.Source.faults l.first ≡ g.S.Source.faults l.initial.first;
   no_second_fault : g.T.Source.faults l.second ≡ g.T.Source.faults l.initial.second;
   no_write_fault : g.K.Sink.faults l.out ≡ g.K.Sink.faults l.initial.out;
-  first_told : g.S.Source.ends l.first ≡ g.S.Source.ends l.initial.first;
-  second_told : g.T.Source.ends l.second ≡ g.T.Source.ends l.initial.second;
+  first_reported : g.S.Source.ends l.first ≡ g.S.Source.ends l.initial.first;
+  second_reported : g.T.Source.ends l.second ≡ g.T.Source.ends l.initial.second;
   first_rooms : RoseBy l.block (g.S.Source.fills l.initial.first) (g.S.Source.fills l.first);
   second_rooms : RoseBy l.block (g.T.Source.fills l.initial.second) (g.T.Source.fills l.second);
 }

@@ -1,7 +1,7 @@
 use Rattle.std.proofs.Common.{refl}
 use Rattle.raw_subcode.specs.Channels.{unit_size}
 use Rattle.stream_stages.proofs.Ends.{ends_counts, ends_unread, stops_counts, stops_played}
-use Rattle.stream_stages.proofs.Told.{counts_told, unread}
+use Rattle.stream_stages.proofs.Reported.{counts_reported, unread}
 use Rattle.stream_stages.proofs.Checks.{at_end_stop, checks_done, checked_done, checked_stop}
 use Rattle.stream_stages.proofs.check.Checker.check.Goals as goal
 
@@ -19,7 +19,7 @@ returns-in-Ok g c =
           stops = stops_counts c.write_counts.result _ c.write_counts.ensures.part;
           answer = checked_done (unit_size c.args.form) _ _ _ _ c.write_counts.ensures.part
               c.in-Ok.ensures.reads.answer;
-          faults = counts_told _ _ _ _ c.in-Ok.ensures.reads.read_fault.later cause.later c.in-Ok.pumped
+          faults = counts_reported _ _ _ _ c.in-Ok.ensures.reads.read_fault.later cause.later c.in-Ok.pumped
               c.write_counts.result _
               c.in-Ok.ensures.reads.read_fault.same cause c.write_counts.ensures.part;
           ended =

@@ -1,6 +1,6 @@
 use Rattle.std.proofs.Common.{refl}
 use Rattle.stream_stages.proofs.Ends.{ends_texts, ends_unread, stops_list, stops_unread}
-use Rattle.stream_stages.proofs.Told.{texts_told, unread}
+use Rattle.stream_stages.proofs.Reported.{texts_reported, unread}
 use Rattle.stream_stages.proofs.TextLists.{lists_done, lists_stop, listed_done, listed_stop}
 use Rattle.stream_stages.proofs.listings.TextLister.text_list.Goals as goal
 
@@ -20,7 +20,7 @@ returns-in-Ok g c =
               (g.K.Sink.held c.write_texts.new.out) c.write_texts.result wrote.writes;
           answer = listed_done c.args.form c.args.lead_in c.in-Ok.pumped _ _ _ _ _ c.begin.new.self
               c.watch.new.stages.blocks taken _ w wrote.writes lists c.in-Ok.ensures.reads.answer;
-          faults = texts_told _ _ _ _ c.in-Ok.ensures.reads.read_fault.later wrote.write_fault.later
+          faults = texts_reported _ _ _ _ c.in-Ok.ensures.reads.read_fault.later wrote.write_fault.later
               c.watch.new.stages.blocks _
               (g.K.Sink.held c.args.out.now) (g.K.Sink.held c.write_texts.new.out) c.in-Ok.pumped
               c.write_texts.result

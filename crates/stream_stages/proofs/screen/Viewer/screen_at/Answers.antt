@@ -1,7 +1,7 @@
 use Rattle.std.proofs.Common.{refl, rules}
 use Rattle.cdg_screen.specs.Texts.{pixmap}
 use Rattle.stream_stages.specs.Stages.{painting_of}
-use Rattle.stream_stages.proofs.Told.{cut_told, shown_told, unread_view}
+use Rattle.stream_stages.proofs.Reported.{cut_reported, shown_reported, unread_view}
 use Rattle.stream_stages.proofs.Views.{shows_done, shows_cut, shows_stop}
 use Rattle.stream_stages.proofs.screen.Viewer.screen_at.Goals as goal
 
@@ -17,7 +17,7 @@ returns-in-Ok-write_ppm g c =
               (painting_of c.view.new.self.views.blocks).screen _ _ _ v c.in-Ok-write_ppm.ensures.ok;
           stops = tt;
           answer = c.in-Ok.ensures.answer;
-          faults = shown_told _ _ _ _ c.in-Ok.ensures.read_fault.later cause.later _ _
+          faults = shown_reported _ _ _ _ c.in-Ok.ensures.read_fault.later cause.later _ _
               c.in-Ok.ensures.read_fault.same cause.same;
           ended = c.in-Ok.ensures.ended;
         };
@@ -37,7 +37,7 @@ returns-in-Err-write_ppm g c =
               (painting_of c.view.new.self.views.blocks).screen _ _ _ v c.in-Err-write_ppm.ensures.part;
           stops = tt;
           answer = search rules;
-          faults = cut_told _ _ _ _ c.in-Ok.ensures.read_fault.later cause.later _
+          faults = cut_reported _ _ _ _ c.in-Ok.ensures.read_fault.later cause.later _
               c.in-Ok.ensures.read_fault.same cause.failed;
           ended = c.in-Ok.ensures.ended;
         };

@@ -42,16 +42,16 @@ module _ (lead_in audio : ℕ) (out : Change Bytes) where
   late_of : (sheet : CueSheet) (script : List Drawing) (picture need free : ℕ)
       (answer : Result (Unit {0}) AuthorStop) → IsPutFor (disc_of sheet script lead_in audio) out answer
       → author_status answer ≡ Late picture need free → IsLate script picture need free
-  late_of sheet script picture need free (Err (stop.Late k n f)) put told =
-      same_late script k n f picture need free told put.why.2
-  late_of sheet script picture need free (Ok done) put told = absurd (cc)
-  late_of sheet script picture need free (Err (stop.LengthShort m)) put told = absurd (cc)
-  late_of sheet script picture need free (Err (stop.DiscTooLong m)) put told = absurd (cc)
-  late_of sheet script picture need free (Err (stop.PastEnd m)) put told = absurd (cc)
-  late_of sheet script picture need free (Err (stop.TextTooLong m)) put told = absurd (cc)
-  late_of sheet script picture need free (Err (stop.LeadInShort m)) put told = absurd (cc)
-  late_of sheet script picture need free (Err stop.WriteFault) put told = absurd (cc)
-  late_of sheet script picture need free (Err stop.NoMemory) put told = absurd (cc)
+  late_of sheet script picture need free (Err (stop.Late k n f)) put reported =
+      same_late script k n f picture need free reported put.why.2
+  late_of sheet script picture need free (Ok done) put reported = absurd (cc)
+  late_of sheet script picture need free (Err (stop.LengthShort m)) put reported = absurd (cc)
+  late_of sheet script picture need free (Err (stop.DiscTooLong m)) put reported = absurd (cc)
+  late_of sheet script picture need free (Err (stop.PastEnd m)) put reported = absurd (cc)
+  late_of sheet script picture need free (Err (stop.TextTooLong m)) put reported = absurd (cc)
+  late_of sheet script picture need free (Err (stop.LeadInShort m)) put reported = absurd (cc)
+  late_of sheet script picture need free (Err stop.WriteFault) put reported = absurd (cc)
+  late_of sheet script picture need free (Err stop.NoMemory) put reported = absurd (cc)
 
   module _ (script : List Drawing) where
     same_text : (text : List ℕ) (lines : List Drawing) (k n f : ℕ) → IsScriptText text lines
@@ -76,21 +76,21 @@ module _ (lead_in audio : ℕ) (out : Change Bytes) where
         → status ≡ Late picture need free
         → AuthorsWith lead_in audio (both left left' (Some text) more' out) status
         → IsScriptText text script → IsLate script picture need free
-    of_status text left left' more' picture need free (Late k n f) told authors is =
-        same_late script k n f picture need free told (of_late text left left' more' k n f authors is)
-    of_status text left left' more' picture need free Done told authors is = absurd (cc)
-    of_status text left left' more' picture need free (Damaged n) told authors is = absurd (cc)
-    of_status text left left' more' picture need free Usage told authors is = absurd (cc)
-    of_status text left left' more' picture need free (Refused why) told authors is = absurd (cc)
-    of_status text left left' more' picture need free (ReadFault which) told authors is = absurd (cc)
-    of_status text left left' more' picture need free WriteFault told authors is = absurd (cc)
-    of_status text left left' more' picture need free NoMemory told authors is = absurd (cc)
+    of_status text left left' more' picture need free (Late k n f) reported authors is =
+        same_late script k n f picture need free reported (of_late text left left' more' k n f authors is)
+    of_status text left left' more' picture need free Done reported authors is = absurd (cc)
+    of_status text left left' more' picture need free (Damaged n) reported authors is = absurd (cc)
+    of_status text left left' more' picture need free Usage reported authors is = absurd (cc)
+    of_status text left left' more' picture need free (Refused why) reported authors is = absurd (cc)
+    of_status text left left' more' picture need free (ReadFault which) reported authors is = absurd (cc)
+    of_status text left left' more' picture need free WriteFault reported authors is = absurd (cc)
+    of_status text left left' more' picture need free NoMemory reported authors is = absurd (cc)
 
     pub late_cannot : (picture need free : ℕ) → ((text : List ℕ) → read_script text ≡ Ok script
         → IsLate script picture need free → CannotBeReady script picture need free)
         → (left left' more more' : Bytes) (status : Status) → status ≡ Late picture need free
         → AuthorsWith lead_in audio (both left left' more more' out) status
         → IfSome more (λ text. IsScriptText text script → CannotBeReady script picture need free)
-    late_cannot picture need free law left left' None more' status told authors = tt
-    late_cannot picture need free law left left' (Some text) more' status told authors =
-        λ is. law text is.reads (of_status text left left' more' picture need free status told authors is)
+    late_cannot picture need free law left left' None more' status reported authors = tt
+    late_cannot picture need free law left left' (Some text) more' status reported authors =
+        λ is. law text is.reads (of_status text left left' more' picture need free status reported authors is)

@@ -1,7 +1,7 @@
 use Rattle.std.proofs.Common.{◌<◌, ℕ}
 use Rattle.picture_script.specs.Script.{picture_pixel}
 use Rattle.run_laws.proofs.Refusals.{disc_refused, script_refused, sheet_refused}
-use Rattle.run_laws.proofs.discs.refusals_are_told.Goals as goal
+use Rattle.run_laws.proofs.discs.refusals_are_reported.Goals as goal
 
 pub returns-clause-sheet : goal.returns-clause-sheet
 returns-clause-sheet c = λ lead_in audio why call status is.

@@ -5,7 +5,7 @@ use Rattle.rw_code.proofs.Differing.{differences_self}
 use Rattle.rw_code.proofs.Errors.{idle_near}
 use Rattle.rw_code.specs.Finding.{finding}
 use Rattle.rw_code.proofs.Finding.{only_finding}
-use Rattle.rw_mend.specs.Candidates.{doubts_of, candidate_covered, candidate_found, candidate_of}
+use Rattle.rw_mend.specs.Candidates.{distance_of, candidate_covered, candidate_found, candidate_of}
 use Rattle.rw_mend.specs.declared.candidates.Coverage.{Coverage}
 use Rattle.rw_mend.specs.declared.candidates.Coverage.TheVariants.{Whole, Partly, Unread}
 use Rattle.rw_mend.specs.declared.candidates.WordReading.{WordReading}
@@ -27,12 +27,13 @@ pub silent_is : (reading : WordReading) → reading.coverage ≡ Unread → Sile
 unfolding candidate_of
 silent_is reading is = unread_silent reading.coverage reading is
 
-pub near_is : (reading : WordReading) (codeword : List ℕ) (doubts : ℕ) → reading.coverage ≢ Unread
+pub near_is : (reading : WordReading) (codeword : List ℕ) (distance : ℕ) → reading.coverage ≢ Unread
     → IsWord reading.word → Reads reading.word codeword
-    → doubts ≡ doubts_of reading.coverage reading.word codeword → Near codeword doubts ≡ candidate_of reading
+    → distance ≡ distance_of reading.coverage reading.word codeword
+    → Near codeword distance ≡ candidate_of reading
 unfolding candidate_of
-near_is reading codeword doubts is_read word reads doubts_are =
-    ap (Near codeword) doubts_are
+near_is reading codeword distance is_read word reads distance_are =
+    ap (Near codeword) distance_are
     ∙ ap (candidate_found reading) (only_finding reading.word word (Some codeword) reads)
     ∙ read_found reading.coverage reading is_read
 
@@ -62,12 +63,12 @@ pub whole_idle : (reading : WordReading) → reading.coverage ≡ Whole → read
 whole_idle reading whole is =
     let zeros : List ℕ = replicate 24 0 in
     near_is reading zeros 0 (λ unread. (cc)) (idle_word reading is) (idle_reads reading is)
-    (sym (ap₂ (λ c w. doubts_of c w zeros) whole is ∙ differences_self zeros))
+    (sym (ap₂ (λ c w. distance_of c w zeros) whole is ∙ differences_self zeros))
 
 pub partly_idle : (reading : WordReading) → reading.coverage ≡ Partly → reading.word ≡ replicate 24 0
     → Near (replicate 24 0) 3 ≡ candidate_of reading
 partly_idle reading partly is =
     let zeros : List ℕ = replicate 24 0 in
     near_is reading zeros 3 (λ unread. (cc)) (idle_word reading is) (idle_reads reading is)
-    (sym (ap₂ (λ c w. doubts_of c w zeros) partly is
+    (sym (ap₂ (λ c w. distance_of c w zeros) partly is
     ∙ ap (λ t. if t then 3 else differences zeros zeros) (ap (λ n. n == 0) (differences_self zeros))))

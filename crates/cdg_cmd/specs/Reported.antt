@@ -10,7 +10,7 @@ use Rattle.cdg_cmd.specs.declared.status.Status.TheVariants.{Done}
 
 -- The line of the status was written and no write failed, or a write failed and a prefix of the line was written. For
 -- `Done`, the error output is unchanged.
-pub record Tells {E : Type 0} (held : E → Bytes) (faults : E → ℕ) (before after : E)
+pub record ReportsStatus {E : Type 0} (held : E → Bytes) (faults : E → ℕ) (before after : E)
     (status : Status) : Type 0 where
   pub line : ((faults after ≡ faults before) × Appends (held before) (held after) (error_line status))
       ⊎ (Rose (faults before) (faults after) × AppendsPrefix (held before) (held after) (error_line status))

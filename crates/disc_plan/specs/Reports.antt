@@ -7,7 +7,7 @@ use Rattle.subcode_author.specs.declared.stops.AuthorStop.TheVariants.{LengthSho
 use Rattle.disc_plan.specs.declared.plan.PlannedDisc.{PlannedDisc}
 use Rattle.disc_plan.specs.declared.stops.PlanStop.{PlanStop}
 use Rattle.disc_plan.specs.declared.stops.PlanStop.TheVariants.{SheetTooLong, Sheet, ScriptTooLong, Script, Disc, NoRoom, NoMemory}
-use Rattle.disc_plan.specs.declared.told.ToldPlan.{ToldPlan}
+use Rattle.disc_plan.specs.declared.reports.PlanReport.{PlanReport}
 use Rattle.cue_sheet.specs.declared.fault.CueWhy.{CueWhy}
 use Rattle.cue_sheet.specs.declared.fault.CueWhy.TheVariants.{UnknownCommand, SecondFile, Misplaced, BadArgument, Repeated, NoIndex, NotAudio, NumberOrder, IndexOrder, TimeOrder, NoFile, NoTrack}
 
@@ -27,8 +27,8 @@ cue_number NoFile = 11
 cue_number NoTrack = 12
 
 -- the result for a disc with a plan
-abbrev pub told_plan : PlannedDisc → ToldPlan
-told_plan disc = record {
+abbrev pub plan_report : PlannedDisc → PlanReport
+plan_report disc = record {
   pictures = disc.pictures;
   blocks = disc.blocks;
   late = disc.late;
@@ -38,7 +38,7 @@ told_plan disc = record {
 }
 
 -- the result for a disc without a plan: the reason, its line and its number
-abbrev pub refusal : ℕ → ℕ → ℕ → ToldPlan
+abbrev pub refusal : ℕ → ℕ → ℕ → PlanReport
 refusal why line number =
     record { pictures = 0; blocks = 0; late = 0; why = why; line = line; number = number }
 
@@ -51,7 +51,7 @@ script_number script.TimeOrder = 4
 script_number script.TooMany = 5
 
 -- the result for a sheet and a script that do not fit on their disc
-abbrev pub disc_refusal : AuthorStop → ToldPlan
+abbrev pub disc_refusal : AuthorStop → PlanReport
 disc_refusal (LengthShort need) = refusal 4 0 need
 disc_refusal (DiscTooLong blocks) = refusal 5 0 blocks
 disc_refusal (PastEnd blocks) = refusal 6 0 blocks
@@ -60,11 +60,11 @@ disc_refusal (LeadInShort need) = refusal 8 0 need
 disc_refusal _ = refusal 0 0 0
 
 -- the result if there is no plan
-abbrev pub told_stop : PlanStop → ToldPlan
-told_stop SheetTooLong = refusal 1 0 0
-told_stop (Sheet line why) = refusal 2 line (cue_number why)
-told_stop ScriptTooLong = refusal 1 0 0
-told_stop (Script line why) = refusal 3 line (script_number why)
-told_stop (Disc stop) = disc_refusal stop
-told_stop (NoRoom pictures blocks) = told_plan (record { pictures = pictures; blocks = blocks; late = 0 })
-told_stop NoMemory = refusal 0 0 0
+abbrev pub stop_report : PlanStop → PlanReport
+stop_report SheetTooLong = refusal 1 0 0
+stop_report (Sheet line why) = refusal 2 line (cue_number why)
+stop_report ScriptTooLong = refusal 1 0 0
+stop_report (Script line why) = refusal 3 line (script_number why)
+stop_report (Disc stop) = disc_refusal stop
+stop_report (NoRoom pictures blocks) = plan_report (record { pictures = pictures; blocks = blocks; late = 0 })
+stop_report NoMemory = refusal 0 0 0

@@ -1,22 +1,22 @@
 -- From the answers of the steps of `press` to its status.
 use Rattle.std.proofs.Common.{◌≡◌, ◌≢◌, ◌≤◌, ℕ, List, [], Result, Ok, Err, OnOk, IfErr, refl, sym, ap, subst}
 use Rattle.std.specs.Io.KnownBytes.{Appends}
-use Rattle.cdg_io.specs.Causes.{Rose, TellsFault}
+use Rattle.cdg_io.specs.Causes.{Rose, ReportsFault}
 use Rattle.cue_sheet.specs.CueSheet.{CueSheet}
 use Rattle.cdg_press.specs.Pressed.{IsPressed, press_of}
 use Rattle.cdg_press.specs.Refusals.{IsPressable, IsPressStop}
 use Rattle.cdg_press.specs.declared.stops.PressStop.{PressStop}
 use Rattle.cdg_press.specs.declared.stops.PressStop.TheVariants as stop
 use Rattle.cdg_io.specs.Change.{Bytes, change}
-use Rattle.cdg_cmd.specs.Faults.{IsTold, TellsFaults}
+use Rattle.cdg_cmd.specs.Faults.{IsReported, ReportsFaults}
 use Rattle.cdg_cmd.specs.Presses.{IsFileStop, IsPressedFor, PutsPressedPrefix}
 use Rattle.cdg_cmd.specs.Stops.{press_status}
 use Rattle.cdg_cmd.specs.declared.status.Which.TheVariants.{First, Second}
 use Rattle.cdg_cmd.specs.declared.status.Status.{Status}
 use Rattle.cdg_cmd.specs.declared.status.Status.TheVariants.{Done, Usage, ReadFault, WriteFault}
 use Rattle.cdg_cmd.proofs.AuthorStatus.{unchanged}
-use Rattle.cdg_cmd.proofs.AuthorTold.{of_input, still}
-use Rattle.cdg_cmd.proofs.Quiet.{count, silent, told}
+use Rattle.cdg_cmd.proofs.AuthorReported.{of_input, still}
+use Rattle.cdg_cmd.proofs.Quiet.{count, silent, reported}
 
 not_first : (left : Bytes) (status : Status) → IsFileStop left status → status ≢ ReadFault First
 not_first left status why e = subst (IsFileStop left) e why
@@ -25,11 +25,11 @@ not_cut : (left : Bytes) (status : Status) → IsFileStop left status → status
 not_cut left status why e = subst (IsFileStop left) e why
 
 -- the file stopped the command
-pub told_at_file : {A B : Type 0} (sheet : B) (status : Status) (left : Bytes) (f f' t t' k : ℕ)
-    → IsFileStop left status → TellsFault {T = B} (ReadFault First) f f' (Ok sheet)
-    → TellsFault {T = A} (ReadFault Second) t t' (Err status)
-    → TellsFaults (record { first = count f f'; second = count t t'; out = count k k }) status
-told_at_file sheet status left f f' t t' k why first second = record {
+pub report_at_file : {A B : Type 0} (sheet : B) (status : Status) (left : Bytes) (f f' t t' k : ℕ)
+    → IsFileStop left status → ReportsFault {T = B} (ReadFault First) f f' (Ok sheet)
+    → ReportsFault {T = A} (ReadFault Second) t t' (Err status)
+    → ReportsFaults (record { first = count f f'; second = count t t'; out = count k k }) status
+report_at_file sheet status left f f' t t' k why first second = record {
   first = silent (ReadFault First) status f f' first.later (not_first left status why) (first.same (λ e. cc));
   second = of_input (ReadFault Second) status t t' second;
   out = still WriteFault status k (not_cut left status why);
@@ -37,8 +37,8 @@ told_at_file sheet status left f f' t t' k why first second = record {
 
 written : (answer : Result (Unit {0}) PressStop) (k k' : ℕ) → k ≤ k'
     → (answer ≡ Err stop.WriteFault → Rose k k') → (answer ≢ Err stop.WriteFault → k' ≡ k)
-    → IsTold WriteFault (count k k') (press_status answer)
-written (Err stop.WriteFault) k k' later cut same = told WriteFault k k' later (cut refl)
+    → IsReported WriteFault (count k k') (press_status answer)
+written (Err stop.WriteFault) k k' later cut same = reported WriteFault k k' later (cut refl)
 written (Ok done) k k' later cut same = silent WriteFault _ k k' later (λ e. cc) (same (λ e. cc))
 written (Err (stop.PackTorn pack)) k k' later cut same =
     silent WriteFault _ k k' later (λ e. cc) (same (λ e. cc))
@@ -56,8 +56,8 @@ written (Err (stop.LeadInShort need)) k k' later cut same =
 written (Err stop.NoMemory) k k' later cut same = silent WriteFault _ k k' later (λ e. cc) (same (λ e. cc))
 
 read_by : (answer : Result (Unit {0}) PressStop) (n n' : ℕ) → n ≤ n' → n' ≡ n
-    → IsTold (ReadFault First) (count n n') (press_status answer)
-    × IsTold (ReadFault Second) (count n n') (press_status answer)
+    → IsReported (ReadFault First) (count n n') (press_status answer)
+    × IsReported (ReadFault Second) (count n n') (press_status answer)
 read_by (Ok done) n n' later same = (
   silent (ReadFault First) _ n n' later (λ e. cc) same,
   silent (ReadFault Second) _ n n' later (λ e. cc) same,
@@ -99,27 +99,30 @@ read_by (Err stop.WriteFault) n n' later same = (
   silent (ReadFault Second) _ n n' later (λ e. cc) same,
 )
 
-told_at_end : (answer : Result (Unit {0}) PressStop) (f f' t t' k k' : ℕ) → f ≤ f' → f' ≡ f → t ≤ t' → t' ≡ t
+reported_at_end : (answer : Result (Unit {0}) PressStop) (f f' t t' k k' : ℕ) → f ≤ f' → f' ≡ f → t ≤ t'
+    → t' ≡ t
     → k ≤ k' → (answer ≡ Err stop.WriteFault → Rose k k')
     → (answer ≢ Err stop.WriteFault → k' ≡ k)
-    → TellsFaults (record { first = count f f'; second = count t t'; out = count k k' }) (press_status answer)
-told_at_end answer f f' t t' k k' early first late second later cut same = record {
+    → ReportsFaults (record { first = count f f'; second = count t t'; out = count k k' })
+    (press_status answer)
+reported_at_end answer f f' t t' k k' early first late second later cut same = record {
   first = (read_by answer f f' early first).0;
   second = (read_by answer t t' late second).1;
   out = written answer k k' later cut same;
 }
 
 -- both inputs were read
-pub told_of_both : {A B : Type 0} (sheet : A) (file : B) (answer : Result (Unit {0}) PressStop)
+pub reported_of_both : {A B : Type 0} (sheet : A) (file : B) (answer : Result (Unit {0}) PressStop)
     (status : Status) (f f' t t' k k' : ℕ) → status ≡ press_status answer
-    → TellsFault {T = A} (ReadFault First) f f' (Ok sheet)
-    → TellsFault {T = B} (ReadFault Second) t t' (Ok file) → TellsFault stop.WriteFault k k' answer
-    → TellsFaults (record { first = count f f'; second = count t t'; out = count k k' }) status
-told_of_both sheet file answer status f f' t t' k k' is first second out =
+    → ReportsFault {T = A} (ReadFault First) f f' (Ok sheet)
+    → ReportsFault {T = B} (ReadFault Second) t t' (Ok file) → ReportsFault stop.WriteFault k k' answer
+    → ReportsFaults (record { first = count f f'; second = count t t'; out = count k k' }) status
+reported_of_both sheet file answer status f f' t t' k k' is first second out =
     subst
-    (λ (s : Status). TellsFaults (record { first = count f f'; second = count t t'; out = count k k' }) s)
+    (λ (s : Status). ReportsFaults (record { first = count f f'; second = count t t'; out = count k k' }) s)
     (sym is)
-    (told_at_end answer f f' t t' k k' first.later (first.same (λ e. cc)) second.later (second.same (λ e. cc))
+    (reported_at_end answer f f' t t' k k' first.later (first.same (λ e. cc)) second.later
+    (second.same (λ e. cc))
     out.later out.rose out.same)
 
 -- The output

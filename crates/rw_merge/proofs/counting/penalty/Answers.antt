@@ -1,11 +1,11 @@
 use Rattle.std.proofs.Common.{◌≡◌, ◌<◌, ◌+◌, length, get_or, ap, subst, sym, ◌∙◌, inl, inr, arith}
 use Rattle.std.proofs.lemmas.Bool.Decides.{eqb_tells}
 use Rattle.rw_code.specs.Codeword.{IsWord}
-use Rattle.rw_merge.proofs.Readings.{no_doubts, doubts_differ, doubts_wrong, doubts_right}
-use Rattle.rw_merge.proofs.counting.doubts.Goals as goal
+use Rattle.rw_merge.proofs.Readings.{no_penalty, penalty_differ, penalty_wrong, penalty_right}
+use Rattle.rw_merge.proofs.counting.penalty.Goals as goal
 
 pub loop-i-init : goal.loop-i-init
-loop-i-init c = record { count = no_doubts; few = omega arith }
+loop-i-init c = record { count = no_penalty; few = omega arith }
 
 pub loop-i-preserved : goal.loop-i-preserved
 loop-i-preserved c =
@@ -30,29 +30,30 @@ loop-i-preserved c =
     let wb = get_or c.bytes-word.result i 0 in
     elim (eqb_tells xb yb) [
       | inr (differ, apart) ↦
-          let one = c.doubt-doubts.ensures.apart apart in
-          let step = doubts_differ xs ys ws i y_size w_size lt (λ same. apart (x_at ∙ same ∙ sym y_at)) in
+          let one = c.symbol_penalty-penalty.ensures.apart apart in
+          let step = penalty_differ xs ys ws i y_size w_size lt (λ same. apart (x_at ∙ same ∙ sym y_at)) in
           record {
-            count = ap (λ n. c.loop-i.doubts + n) one ∙ ap (λ n. n + 1) before.count ∙ sym step;
+            count = ap (λ n. c.loop-i.penalty + n) one ∙ ap (λ n. n + 1) before.count ∙ sym step;
             few = omega (arith, one, before.few);
           }
       | inl (equal, same) ↦
           elim (eqb_tells xb wb) [
             | inr (differ, wrong) ↦
-                let two = c.doubt-doubts.ensures.wrong same wrong in
+                let two = c.symbol_penalty-penalty.ensures.wrong same wrong in
                 let step =
-                doubts_wrong xs ys ws i y_size w_size lt (sym x_at ∙ same ∙ y_at)
+                penalty_wrong xs ys ws i y_size w_size lt (sym x_at ∙ same ∙ y_at)
                 (λ right. wrong (x_at ∙ right ∙ sym w_at)) in
                 record {
-                  count = ap (λ n. c.loop-i.doubts + n) two ∙ ap (λ n. n + 2) before.count ∙ sym step;
+                  count = ap (λ n. c.loop-i.penalty + n) two ∙ ap (λ n. n + 2) before.count ∙ sym step;
                   few = omega (arith, two, before.few);
                 }
             | inl (equal', right) ↦
-                let none = c.doubt-doubts.ensures.right same right in
+                let none = c.symbol_penalty-penalty.ensures.right same right in
                 let step =
-                doubts_right xs ys ws i y_size w_size lt (sym x_at ∙ same ∙ y_at) (sym x_at ∙ right ∙ w_at) in
+                penalty_right xs ys ws i y_size w_size lt (sym x_at ∙ same ∙ y_at)
+                (sym x_at ∙ right ∙ w_at) in
                 record {
-                  count = ap (λ n. c.loop-i.doubts + n) none ∙ omega arith ∙ before.count ∙ sym step;
+                  count = ap (λ n. c.loop-i.penalty + n) none ∙ omega arith ∙ before.count ∙ sym step;
                   few = omega (arith, none, before.few);
                 }
           ]

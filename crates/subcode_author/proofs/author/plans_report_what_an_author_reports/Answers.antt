@@ -1,8 +1,8 @@
-use Rattle.subcode_author.proofs.author.plans_tell_what_an_author_tells.Goals as goal
+use Rattle.subcode_author.proofs.author.plans_report_what_an_author_reports.Goals as goal
 
 pub returns-clause-accepted : goal.returns-clause-accepted
 returns-clause-accepted c sheet script lead_in audio rows disc room are prompt = record {
   disc = disc;
   room = room;
-  ready = c.plans_tell_what_a_survey_tells.ensures.none script rows are prompt;
+  ready = c.plans_report_what_a_survey_reports.ensures.none script rows are prompt;
 }

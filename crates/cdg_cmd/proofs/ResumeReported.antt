@@ -2,7 +2,7 @@
 use Rattle.std.proofs.Common.{◌≡◌, ◌≢◌, ◌≤◌, ◌==◌, ◌⊎◌, ℕ, Bool, true, false, List, length, Result, Ok, Err, IfErr, IsErrOf, refl, sym, subst, ◌∙◌, inl, inr, if◌then◌else◌, arith}
 use Rattle.std.specs.Prelude.{IsErr}
 use Rattle.std.specs.Io.KnownBytes.{Consumes, IsAtEnd}
-use Rattle.cdg_io.specs.Causes.{Rose, RoseOnce, TellsFault}
+use Rattle.cdg_io.specs.Causes.{Rose, RoseOnce, ReportsFault}
 use Rattle.cdg_checkpoint.specs.Table.{file_size}
 use Rattle.cdg_checkpoint.specs.Resumed.{IsAcceptedBy, acceptance}
 use Rattle.cdg_checkpoint.specs.declared.stops.Resumed.{Resumed}
@@ -10,13 +10,13 @@ use Rattle.cdg_checkpoint.specs.declared.stops.ResumeStop.{ResumeStop}
 use Rattle.cdg_checkpoint.specs.declared.stops.ResumeStop.TheVariants as resume
 use Rattle.cdg_io.specs.Change.{Input}
 use Rattle.cdg_cmd.specs.Checkpoints.{ReadsCheckpoint}
-use Rattle.cdg_cmd.specs.Faults.{TellsFaults}
+use Rattle.cdg_cmd.specs.Faults.{ReportsFaults}
 use Rattle.cdg_cmd.specs.Keeps.{MayWrite}
 use Rattle.cdg_cmd.specs.Stops.{resume_status}
 use Rattle.cdg_cmd.specs.declared.status.Which.TheVariants.{First, Second}
 use Rattle.cdg_cmd.specs.declared.status.Status.{Status}
 use Rattle.cdg_cmd.specs.declared.status.Status.TheVariants.{Done, Damaged, Usage, ReadFault, WriteFault, NoMemory}
-use Rattle.cdg_cmd.proofs.MergeTold.{none, whole}
+use Rattle.cdg_cmd.proofs.MergeReported.{none, whole}
 use Rattle.cdg_cmd.proofs.Quiet.{count, silent}
 use Rattle.cdg_cmd.proofs.Quiet as quiet
 
@@ -27,25 +27,25 @@ module _ (f f' t t' k k' : ℕ) (first_later : f ≤ f') (second_later : t ≤ t
       → (answer ≢ Err resume.FirstFault → f' ≡ f)
       → (IsErrOf answer resume.SecondFault → Rose t t') → (answer ≢ Err resume.SecondFault → t' ≡ t)
       → (IsErrOf answer resume.WriteFault → Rose k k') → (answer ≢ Err resume.WriteFault → k' ≡ k)
-      → TellsFaults (record { first = count f f'; second = count t t'; out = count k k' })
+      → ReportsFaults (record { first = count f f'; second = count t t'; out = count k k' })
       (resume_status answer)
   faults (Ok resumed) rose same rises stays cut kept =
       whole f f' t t' k k' first_later second_later out_later (resumed.bad == 0) resumed.bad (same (λ e. cc))
       (stays (λ e. cc)) (kept (λ e. cc))
   faults (Err resume.FirstFault) rose same rises stays cut kept = record {
-    first = quiet.told (ReadFault First) f f' first_later (rose refl);
+    first = quiet.reported (ReadFault First) f f' first_later (rose refl);
     second = silent (ReadFault Second) (ReadFault First) t t' second_later (λ e. cc) (stays (λ e. cc));
     out = silent WriteFault (ReadFault First) k k' out_later (λ e. cc) (kept (λ e. cc));
   }
   faults (Err resume.SecondFault) rose same rises stays cut kept = record {
     first = silent (ReadFault First) (ReadFault Second) f f' first_later (λ e. cc) (same (λ e. cc));
-    second = quiet.told (ReadFault Second) t t' second_later (rises refl);
+    second = quiet.reported (ReadFault Second) t t' second_later (rises refl);
     out = silent WriteFault (ReadFault Second) k k' out_later (λ e. cc) (kept (λ e. cc));
   }
   faults (Err resume.WriteFault) rose same rises stays cut kept = record {
     first = silent (ReadFault First) WriteFault f f' first_later (λ e. cc) (same (λ e. cc));
     second = silent (ReadFault Second) WriteFault t t' second_later (λ e. cc) (stays (λ e. cc));
-    out = quiet.told WriteFault k k' out_later (cut refl);
+    out = quiet.reported WriteFault k k' out_later (cut refl);
   }
   faults (Err (resume.BadSave byte)) rose same rises stays cut kept =
       none f f' t t' k k' first_later second_later out_later _ (λ e. cc) (λ e. cc) (λ e. cc) (same (λ e. cc))
@@ -63,14 +63,14 @@ module _ (f f' t t' k k' : ℕ) (first_later : f ≤ f') (second_later : t ≤ t
       none f f' t t' k k' first_later second_later out_later _ (λ e. cc) (λ e. cc) (λ e. cc) (same (λ e. cc))
       (stays (λ e. cc)) (kept (λ e. cc))
 
-pub told : (answer : Result Resumed ResumeStop) (status : Status) (f f' t t' k k' : ℕ)
-    → status ≡ resume_status answer → TellsFault resume.FirstFault f f' answer
-    → TellsFault resume.SecondFault t t' answer
-    → TellsFault resume.WriteFault k k' answer
-    → TellsFaults (record { first = count f f'; second = count t t'; out = count k k' }) status
-told answer status f f' t t' k k' is first second out =
+pub reported : (answer : Result Resumed ResumeStop) (status : Status) (f f' t t' k k' : ℕ)
+    → status ≡ resume_status answer → ReportsFault resume.FirstFault f f' answer
+    → ReportsFault resume.SecondFault t t' answer
+    → ReportsFault resume.WriteFault k k' answer
+    → ReportsFaults (record { first = count f f'; second = count t t'; out = count k k' }) status
+reported answer status f f' t t' k k' is first second out =
     subst
-    (λ (s : Status). TellsFaults (record { first = count f f'; second = count t t'; out = count k k' }) s)
+    (λ (s : Status). ReportsFaults (record { first = count f f'; second = count t t'; out = count k k' }) s)
     (sym is)
     (faults f f' t t' k k' first.later second.later out.later answer first.rose first.same second.rose
     second.same out.rose out.same)
@@ -86,14 +86,14 @@ module _ {T : Type 0} (x y : T) (at : ℕ) (first : Input) (file : List ℕ) whe
       → (y ≡ x)
       ⊎ (RoseOnce first.ends.before first.ends.after
       × ((bytes : List ℕ) × ReadsCheckpoint at first.left bytes))
-  read_file answer other accepted taken end told =
+  read_file answer other accepted taken end reported =
       let reads : ReadsCheckpoint at first.left file = record {
         is_file = accepted.0;
         not_later = accepted.1;
         taken = taken other;
         end = end other (omega (arith, accepted.0.size));
       } in
-      inr (told other (omega (arith, accepted.0.size)), (file, reads))
+      inr (reported other (omega (arith, accepted.0.size)), (file, reads))
 
   pub reads_second : (answer : Result Resumed ResumeStop) → (IsErr (acceptance answer) → y ≡ x)
       → IsAcceptedBy (acceptance answer) at file
@@ -104,21 +104,21 @@ module _ {T : Type 0} (x y : T) (at : ℕ) (first : Input) (file : List ℕ) whe
       → (y ≡ x)
       ⊎ (RoseOnce first.ends.before first.ends.after
       × ((bytes : List ℕ) × ReadsCheckpoint at first.left bytes))
-  reads_second (Err resume.FirstFault) same accepted taken end told = inl (same refl)
-  reads_second (Err (resume.BadSave byte)) same accepted taken end told = inl (same refl)
-  reads_second (Err (resume.BeforeSave blocks)) same accepted taken end told = inl (same refl)
-  reads_second (Ok resumed) same accepted taken end told =
-      read_file (Ok resumed) (λ e. cc) accepted taken end told
-  reads_second (Err resume.SecondFault) same accepted taken end told =
-      read_file (Err resume.SecondFault) (λ e. cc) accepted taken end told
-  reads_second (Err resume.WriteFault) same accepted taken end told =
-      read_file (Err resume.WriteFault) (λ e. cc) accepted taken end told
-  reads_second (Err (resume.Torn block)) same accepted taken end told =
-      read_file (Err (resume.Torn block)) (λ e. cc) accepted taken end told
-  reads_second (Err resume.TooLong) same accepted taken end told =
-      read_file (Err resume.TooLong) (λ e. cc) accepted taken end told
-  reads_second (Err (resume.PastEnd blocks)) same accepted taken end told =
-      read_file (Err (resume.PastEnd blocks)) (λ e. cc) accepted taken end told
+  reads_second (Err resume.FirstFault) same accepted taken end reported = inl (same refl)
+  reads_second (Err (resume.BadSave byte)) same accepted taken end reported = inl (same refl)
+  reads_second (Err (resume.BeforeSave blocks)) same accepted taken end reported = inl (same refl)
+  reads_second (Ok resumed) same accepted taken end reported =
+      read_file (Ok resumed) (λ e. cc) accepted taken end reported
+  reads_second (Err resume.SecondFault) same accepted taken end reported =
+      read_file (Err resume.SecondFault) (λ e. cc) accepted taken end reported
+  reads_second (Err resume.WriteFault) same accepted taken end reported =
+      read_file (Err resume.WriteFault) (λ e. cc) accepted taken end reported
+  reads_second (Err (resume.Torn block)) same accepted taken end reported =
+      read_file (Err (resume.Torn block)) (λ e. cc) accepted taken end reported
+  reads_second (Err resume.TooLong) same accepted taken end reported =
+      read_file (Err resume.TooLong) (λ e. cc) accepted taken end reported
+  reads_second (Err (resume.PastEnd blocks)) same accepted taken end reported =
+      read_file (Err (resume.PastEnd blocks)) (λ e. cc) accepted taken end reported
 
 -- If the output may not be written
 

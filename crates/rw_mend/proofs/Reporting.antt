@@ -8,7 +8,7 @@ use Rattle.std.proofs.lemmas.Bool.{cases_eq}
 use Rattle.std.proofs.lemmas.Bool.Decides.{eqb_tells}
 use Rattle.std.proofs.lemmas.List.{append_assoc, get_or-replicate, get_or-set_other, get_or-set_same, length-map, map-append, take-append-le, take_all}
 use Rattle.std.proofs.lemmas.Slice.{drop-append-drop}
-use Rattle.rw_mend.specs.Steps.{AreTold}
+use Rattle.rw_mend.specs.Steps.{CountsWords}
 use Rattle.rw_mend.specs.Choice.{IsMendedBy, IsMending}
 use Rattle.rw_mend.specs.Tallies.{AreTallies, HasSource, source_byte}
 use Rattle.rw_mend.specs.declared.choice.WordSource.{WordSource}
@@ -64,15 +64,15 @@ tally_reading all f old new r within is reading agreed none reserved was = recor
 joined : (text : List ℕ) (byte : ℕ) (rest : List ℕ) → text ++ byte ∷ rest ≡ text ++ byte ∷ [] ++ rest
 joined text byte rest = sym (append_assoc text (byte ∷ []) rest)
 
-pub told_more : (before : List ℕ) (words n : ℕ) (sources new : List ℕ) (old more : Tallies)
+pub reported_more : (before : List ℕ) (words n : ℕ) (sources new : List ℕ) (old more : Tallies)
     (candidates : List Candidate) (f : Option Mended) → n < words
     → length new ≡ length sources
     → (n < length sources → new ≡ take n sources ++ source_byte f ∷ drop (n + 1) sources)
     → ((all : List (Option Mended)) → AreTallies all old → AreTallies (all ++ f ∷ []) more)
     → (said : List (List Candidate)) (found : List (Option Mended)) → length said ≡ n → length found ≡ n
-    → AreTold before words sources old said found
-    → AreTold before words new more (said ++ candidates ∷ []) (found ++ f ∷ [])
-told_more before words n sources new old more candidates f lt same put counted said found said_size size
+    → CountsWords before words sources old said found
+    → CountsWords before words new more (said ++ candidates ∷ []) (found ++ f ∷ [])
+reported_more before words n sources new old more candidates f lt same put counted said found said_size size
     was = record {
       tallies_are = counted found was.tallies_are;
       size = same ∙ was.size;
@@ -97,10 +97,10 @@ told_more before words n sources new old more candidates f lt same put counted s
 -- no tally is higher than the number of words
 pub tally_few : (before : List ℕ) (words n : ℕ) (sources : List ℕ) (tallies : Tallies)
     (said : List (List Candidate))
-    (found : List (Option Mended)) → length found ≡ n → AreTold before words sources tallies said found
+    (found : List (Option Mended)) → length found ≡ n → CountsWords before words sources tallies said found
     → (tallies.agreed ≤ n) × (tallies.none ≤ n) × ((r : ℕ) → r < 254 → get_or tallies.of_reading r 0 ≤ n)
-tally_few before words n sources tallies said found size told =
-    let are = told.tallies_are in (
+tally_few before words n sources tallies said found size reported =
+    let are = reported.tallies_are in (
       omega (arith, size, are.agreed, count_by-le-length (λ (g : Option Mended). source_byte g == 254) found),
       omega (arith, size, are.none, count_by-le-length (λ (g : Option Mended). source_byte g == 255) found),
       λ r lt.

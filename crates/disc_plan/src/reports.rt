@@ -1,7 +1,7 @@
 // The counts of a sheet, and the result of a plan, for programs in C.
 ghost use Rattle.std.specs.Prelude.{◌≡◌, ◌≤◌, length};
-ghost use Rattle.disc_plan.specs.Told.{told_plan, told_stop, refusal, script_number, disc_refusal, cue_number};
-ghost use Rattle.disc_plan.specs.SheetRows.{sheet_rows, told_refusal, told_sheet};
+ghost use Rattle.disc_plan.specs.Reports.{plan_report, stop_report, refusal, script_number, disc_refusal, cue_number};
+ghost use Rattle.disc_plan.specs.SheetRows.{sheet_rows, refusal_report, sheet_report};
 
 use crate::index_rows::{catalogue_or_zeros, count_rows, flag_of};
 use crate::plan::PlannedDisc;
@@ -13,7 +13,7 @@ use subcode_author::AuthorStop;
 
 #[repr(C)]
 #[derive(Clone, Copy)]
-pub struct ToldSheet {
+pub struct SheetReport {
     /// The number of its index lines, at most 9,900.
     pub rows: u32,
     /// The number of its tracks, 1 to 99.
@@ -29,13 +29,13 @@ pub struct ToldSheet {
 }
 
 /// The counts of an accepted sheet.
-pub(crate) fn told_sheet(sheet: &Sheet) -> ToldSheet
-    ensures told { result ≡ told_sheet sheet.now }
+pub(crate) fn sheet_report(sheet: &Sheet) -> SheetReport
+    ensures report { result ≡ sheet_report sheet.now }
     ensures few { result.rows ≤ 9900 }
 {
     sheet.tracks_are_in_order();
     let code = sheet.catalogue();
-    ToldSheet {
+    SheetReport {
         rows: count_rows(sheet) as u32,
         tracks: sheet.tracks() as u32,
         line: 0,
@@ -46,10 +46,10 @@ pub(crate) fn told_sheet(sheet: &Sheet) -> ToldSheet
 }
 
 /// The refused line of a sheet.
-pub fn told_refusal(line: u32, why: CueWhy) -> ToldSheet
-    ensures { result ≡ told_refusal line why }
+pub fn refusal_report(line: u32, why: CueWhy) -> SheetReport
+    ensures { result ≡ refusal_report line why }
 {
-    ToldSheet {
+    SheetReport {
         rows: 0,
         tracks: 0,
         line,
@@ -61,7 +61,7 @@ pub fn told_refusal(line: u32, why: CueWhy) -> ToldSheet
 
 #[repr(C)]
 #[derive(Clone, Copy)]
-pub struct ToldPlan {
+pub struct PlanReport {
     /// The number of pictures, if there is a plan or too little room for it.
     pub pictures: u32,
     /// The number of blocks of the program, if there is a plan or too little room for it.
@@ -78,10 +78,10 @@ pub struct ToldPlan {
 }
 
 /// The result for a disc with a plan.
-pub fn told_plan(disc: &PlannedDisc) -> ToldPlan
-    ensures { result ≡ told_plan disc.now }
+pub fn plan_report(disc: &PlannedDisc) -> PlanReport
+    ensures { result ≡ plan_report disc.now }
 {
-    ToldPlan {
+    PlanReport {
         pictures: disc.pictures,
         blocks: disc.blocks,
         late: disc.late,
@@ -92,15 +92,15 @@ pub fn told_plan(disc: &PlannedDisc) -> ToldPlan
 }
 
 /// The result for a disc without a plan.
-pub fn told_stop(stop: &PlanStop) -> ToldPlan
-    ensures { result ≡ told_stop stop.now }
+pub fn stop_report(stop: &PlanStop) -> PlanReport
+    ensures { result ≡ stop_report stop.now }
 {
     match *stop {
         PlanStop::SheetTooLong | PlanStop::ScriptTooLong => refusal(1, 0, 0),
         PlanStop::Sheet { line, why } => refusal(2, line, cue_number(why)),
         PlanStop::Script { line, why } => refusal(3, line, script_number(why)),
         PlanStop::Disc { stop } => disc_refusal(stop),
-        PlanStop::NoRoom { pictures, blocks } => told_plan(&PlannedDisc {
+        PlanStop::NoRoom { pictures, blocks } => plan_report(&PlannedDisc {
             pictures,
             blocks,
             late: 0,
@@ -110,10 +110,10 @@ pub fn told_stop(stop: &PlanStop) -> ToldPlan
 }
 
 // The numbers of a refused plan: reason, line and value.
-fn refusal(why: u32, line: u32, number: u32) -> ToldPlan
+fn refusal(why: u32, line: u32, number: u32) -> PlanReport
     ensures { result ≡ refusal why line number }
 {
-    ToldPlan {
+    PlanReport {
         pictures: 0,
         blocks: 0,
         late: 0,
@@ -124,7 +124,7 @@ fn refusal(why: u32, line: u32, number: u32) -> ToldPlan
 }
 
 // The result for a sheet and a script that do not fit on their disc. It has no line.
-fn disc_refusal(stop: AuthorStop) -> ToldPlan
+fn disc_refusal(stop: AuthorStop) -> PlanReport
     ensures { result ≡ disc_refusal stop }
 {
     match stop {
