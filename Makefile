@@ -1,68 +1,68 @@
-# Builds the program, shows it at work, and checks the repository.
+# Builds the program, runs a tour of it, and checks the repository.
 
 .PHONY: all library program web example demo check bench guide definitions install uninstall deb dist clean
 
 PREFIX ?= /usr/local
-# Where libraries go; some systems have a folder for each processor.
+# The folder of the libraries. Some systems have a separate folder for each processor architecture.
 LIBDIR ?= $(PREFIX)/lib
 
-# Proves the program and what it stands on, builds it, and leaves it as bin/ribjasper.
+# Proves the program and the crates below it, and builds bin/ribjasper.
 all:
 	tools/build/build.sh
 
-# The library for programs in C: proves it, builds it, and leaves it in lib/ (include/ribjasper.h), to be linked at
-# run time or statically. `make library TARGET=x86_64-pc-windows-gnu` leaves one for another system in lib/TARGET
-# (tools/build/build_target.sh lists the targets), and CPU=x86-64-v3 is for newer processors only.
+# Proves the C library (include/ribjasper.h) and builds it in lib/, for dynamic and static linking. `make library
+# TARGET=x86_64-pc-windows-gnu` builds it for another system in lib/TARGET (tools/build/build_target.sh lists the targets).
+# A library that is built with CPU=x86-64-v3 runs only on newer processors.
 library:
 	TARGET=$(TARGET) CPU=$(CPU) tools/build/build_library.sh
 
-# The program for another system, in bin/TARGET: `make program TARGET=x86_64-pc-windows-gnu`.
+# Builds the program for another system in bin/TARGET: `make program TARGET=x86_64-pc-windows-gnu`.
 program:
 	tools/build/build_target.sh program $(TARGET)
 
-# The player for web pages: proves it, compiles it to WebAssembly, and leaves it in lib/web/ with a page (index.html) that
-# needs no server, compared with the program where node and Chromium are there. It builds the program where it is not there.
+# Proves the player for web pages, compiles it to WebAssembly, and writes it to lib/web/ with a page (index.html) that needs
+# no server. If Node and Chromium are installed, the player is compared with the program, which is built if it is missing.
 web:
 	[ -x bin/ribjasper ] || tools/build/build.sh
 	tools/build/build_web.sh
 	tests/peers/compare_web.sh
 
-# Builds examples/player.c, as C and as C++, compares its screens with the program's, and measures it. It builds the
-# program and the library where they are not there.
+# Builds examples/player.c, as C and as C++, compares its screens with those of the program, and measures its speed. The
+# program and the library are built if they are missing.
 example:
 	[ -x bin/ribjasper ] || tools/build/build.sh
 	[ -f lib/libribjasper.a ] || tools/build/build_library.sh
 	tests/library/compare_player.sh measure
 
-# A tour of each command on one disc. It builds nothing that is not there yet: without bin/ribjasper
-# one `rt try` compiles the program unproved and runs it.
+# Runs a tour of all commands on one disc. If bin/ribjasper is missing, one `rt try` compiles the program, without proving
+# it, and runs all calls.
 demo:
 	examples/demo.py
 
-# The gate, and then the repository's own checks, with the program and the library that the gate has just proved. The gate
-# takes no links, so that of an earlier library goes; it is made again.
+# Runs the gate, and then the repository's own checks with the program and the library that the gate has proved. The gate
+# refuses symbolic links, so the link of an earlier library is removed; take_gate.sh makes it again.
 check:
 	rm -f lib/libribjasper.so
 	rt ci
 	tools/build/take_gate.sh
 	tools/check/check_repository.sh
 
-# How fast each command is, beside what moving its bytes takes, and what users wait for at the desk.
+# Measures the speed of each command, compared with the time for copying its bytes, and the slow commands of the desk.
 bench:
 	bench/throughput.py
 	bench/desk.py
 
-# The commands of the guide, as they stand.
+# Runs the commands of README.md, docs/FORMATS.md and docs/GUIDE.md unchanged.
 guide:
 	tools/check/run_guide.sh
 
-# All definitions that the clauses rest on, also those that docs/DEFINITIONS.md leaves out, and the list of wrong bodies.
+# Writes all definitions that the clauses use, including those that docs/DEFINITIONS.md omits, and the list of wrong bodies.
 definitions:
 	tools/write/list_definitions.py --whole
 	tools/write/list_wrong_bodies.py >docs/WRONG_BODIES.md
 
-# The program, its manual page, the completions of two shells, and where they can be used the library and the desk,
-# below PREFIX.
+# Installs below PREFIX: the program, its manual page and the completions of two shells; the library if it is built; the
+# desk if Python is installed.
 install:
 	[ -x bin/ribjasper ] || tools/build/build.sh
 	tools/build/install.sh "$(DESTDIR)" "$(PREFIX)" "$(LIBDIR)" ribjasper
@@ -70,15 +70,15 @@ install:
 		tools/build/install.sh "$(DESTDIR)" "$(PREFIX)" "$(LIBDIR)" libribjasper0 libribjasper-dev
 	! command -v python3 >/dev/null || tools/build/install.sh "$(DESTDIR)" "$(PREFIX)" "$(LIBDIR)" ribjasper-desk
 
-# What was installed, and the folders that are then empty, but for those of the system.
+# Removes the installed files, and the folders that become empty, except those of the system.
 uninstall:
 	tools/build/install.sh --remove "$(DESTDIR)" "$(PREFIX)" "$(LIBDIR)" ribjasper libribjasper0 libribjasper-dev ribjasper-desk
 
-# Packages for Debian of what `make` and `make library` built.
+# Makes Debian packages from the results of `make` and `make library`.
 deb:
 	tools/build/make_deb.sh
 
-# A release in dist/: archives of the source and of what was built, and the packages.
+# Makes a release in dist/: archives of the source and of the built files, and the packages.
 dist:
 	tools/build/make_dist.sh
 

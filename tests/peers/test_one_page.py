@@ -48,12 +48,12 @@ class OnePageTest(unittest.TestCase):
             ({"a_mjs": "export const a = 1;\nconst MODULE = 3;\n"}, "both declare MODULE"),
             ({"a_mjs": "export const [a, load] = [1, 2];\n"}, "both declare load"),
             ({"a_mjs": 'import { x as y } from "./b.mjs";\n', "b_mjs": "export const x = 1;\n"}, "renames"),
-            ({"a_mjs": 'import all from "./b.mjs";\n'}, "in a way that is not known"),
-            ({"a_mjs": "export default 3;\n"}, "in a way that is not known"),
+            ({"a_mjs": 'import all from "./b.mjs";\n'}, "unsupported form of import or export"),
+            ({"a_mjs": "export default 3;\n"}, "unsupported form of import or export"),
             ({"a_mjs": 'export const a = "</script>";\n'}, "ends a script"),
             ({"a_mjs": 'import { b } from "./missing.mjs";\n'}, "missing.mjs"),
-            ({"index_html": "<p></p>"}, "has one script"),
-            ({"page_mjs": "load();\n"}, "one line for the module"),
+            ({"index_html": "<p></p>"}, "exactly one script"),
+            ({"page_mjs": "load();\n"}, "exactly one line"),
         ):
             with self.subTest(cause):
                 status, page, told = self.made(**changed)

@@ -1,5 +1,5 @@
 #!/usr/bin/env python3
-"""Packs a folder as a .tar.gz or .zip archive that is always the same: archive.py FOLDER ARCHIVE
+"""Packs a folder as a reproducible .tar.gz or .zip archive: archive.py FOLDER ARCHIVE
 
 Files are sorted by name, belong to root, and have the time SOURCE_DATE_EPOCH. Programs and shared libraries stay executable. In a
 .zip, a link is replaced by its target."""
@@ -15,7 +15,7 @@ import time
 import zipfile
 from pathlib import Path
 
-# A Zip archive has no earlier time.
+# 1980-01-01: a Zip archive cannot store an earlier time.
 FIRST_TIME = 315532800
 TIME = max(FIRST_TIME, int(os.environ.get("SOURCE_DATE_EPOCH", FIRST_TIME)))
 
@@ -29,8 +29,8 @@ def members(folder: Path) -> list[Path]:
 
 
 def tar_of(folder: Path) -> bytes:
-    whole = io.BytesIO()
-    with tarfile.open(fileobj=whole, mode="w", format=tarfile.PAX_FORMAT) as archive:
+    buffer = io.BytesIO()
+    with tarfile.open(fileobj=buffer, mode="w", format=tarfile.PAX_FORMAT) as archive:
         for path in members(folder):
             member = tarfile.TarInfo(path.relative_to(folder.parent).as_posix())
             member.mtime, member.mode, member.uname, member.gname = TIME, mode_of(path), "root", "root"
@@ -44,23 +44,23 @@ def tar_of(folder: Path) -> bytes:
                 content = path.read_bytes()
                 member.size = len(content)
                 archive.addfile(member, io.BytesIO(content))
-    return gzip.compress(whole.getvalue(), mtime=0)
+    return gzip.compress(buffer.getvalue(), mtime=0)
 
 
 def zip_of(folder: Path) -> bytes:
-    whole = io.BytesIO()
-    with zipfile.ZipFile(whole, "w") as archive:
+    buffer = io.BytesIO()
+    with zipfile.ZipFile(buffer, "w") as archive:
         for path in members(folder):
             if path.is_file():
                 member = zipfile.ZipInfo(path.relative_to(folder.parent).as_posix(), time.gmtime(TIME)[:6])
                 member.compress_type, member.create_system = zipfile.ZIP_DEFLATED, 3
                 member.external_attr = (0o100000 | mode_of(path)) << 16
                 archive.writestr(member, path.read_bytes())
-    return whole.getvalue()
+    return buffer.getvalue()
 
 
 def main() -> int:
-    parser = argparse.ArgumentParser(description="Packs a folder as an archive that is always the same.")
+    parser = argparse.ArgumentParser(description="Packs a folder as a reproducible archive.")
     parser.add_argument("folder", type=Path)
     parser.add_argument("archive", type=Path)
     arguments = parser.parse_args()

@@ -1,5 +1,5 @@
 #!/bin/sh
-# Proves and builds the program, and leaves it as bin/ribjasper. What an earlier call proved is kept.
+# Proves the program and builds bin/ribjasper. Proofs of earlier calls are reused.
 set -e
 cd "$(dirname "$0")/../.."
 tools/build/prove_crates.py ribjasper

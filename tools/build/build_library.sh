@@ -39,7 +39,7 @@ mkdir -p "$folder"
 "$compiler" -shared -Wl,-soname,libribjasper.so.0 -Wl,--version-script=tools/build/libribjasper.map -Wl,--no-undefined \
     -Wl,-z,relro -Wl,-z,now -Wl,-z,noexecstack -o "$work/libribjasper.so.0" "$work/libribjasper.o"
 tools/write/library_page.py >"$work/ribjasper.3"
-# Programs that run on the old files keep them: the new ones take their names.
+# Running programs keep the old files, because the new files only take over their names.
 for file in libribjasper.a libribjasper.so.0 ribjasper.3; do
     cp "$work/$file" "$folder/.$file"
     mv "$folder/.$file" "$folder/$file"

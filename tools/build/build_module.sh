@@ -1,6 +1,6 @@
 #!/bin/sh
-# Leaves lib/modules/CRATE.bc, the LLVM module that the kit gives its clang for a proved crate, for x86-64: build_module.sh CRATE
-# A module is kept as long as no source is newer.
+# Writes lib/modules/CRATE.bc, the LLVM module of a proved crate for x86-64: build_module.sh CRATE
+# The kit passes this module to its clang. An existing module is kept if no source is newer.
 set -e
 cd "$(dirname "$0")/../.."
 crate=$1
@@ -14,7 +14,7 @@ build() {
 }
 status=0
 build || status=$?
-# 3: some crates below are not proved yet.
+# Status 3: some crates below this one are not proved yet.
 if [ "$status" = 3 ]; then
     tools/build/prove_crates.py "$crate"
     build

@@ -24,7 +24,7 @@ inside=ribjasper.wasm
 rm -f lib/web/ribjasper32.wasm
 if command -v wasm-opt >/dev/null; then
     inside=ribjasper32.wasm
-    # Addresses of the module's calls stay 64 bits wide; no call gives or takes one above 4 GiB.
+    # Addresses in the module's calls stay 64 bits wide; no call passes or returns one above 4 GiB.
     wasm-opt --enable-memory64 --enable-bulk-memory --enable-simd --memory64-lowering lib/web/.ribjasper.wasm \
         -o "lib/web/.$inside"
 else

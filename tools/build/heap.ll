@@ -1,6 +1,7 @@
-; The heap of the library on other systems, in LLVM's own language, so that its functions return two words as the proved part
-; expects them, whatever the C convention of the system is. The kit's heap does the same on Linux: a size of zero still has a
-; block, and a refused request has an address that is not null, for the proved part holds no null pointer.
+; The heap of the library on other systems. It is written in LLVM's language, so that its functions return two words, as the
+; proved part expects, regardless of the system's C convention. The kit's heap behaves in the same way on Linux: a request of
+; zero bytes returns a block, and a failed request returns an address that is not null, because the proved part has no null
+; pointers.
 
 @rattle_nothing = internal global i8 0
 
@@ -20,7 +21,7 @@ define internal { i64, i64 } @rattle_found(ptr %block) nounwind {
   ret { i64, i64 } %whole
 }
 
-; The alignment divides 16, and malloc gives no less.
+; The alignment divides 16, and malloc aligns blocks to at least 16 bytes.
 define internal { i64, i64 } @rattle_alloc(i64 noundef %bytes, i64 noundef %align) nounwind {
   %is_empty = icmp eq i64 %bytes, 0
   %size = select i1 %is_empty, i64 %align, i64 %bytes

@@ -13,17 +13,17 @@ version=$(cat VERSION)
 # The calls of the library, by name.
 calls() { grep -oE '\bribjasper_[a-z0-9_]+\(' include/ribjasper.h | tr -d '(' | sort -u; }
 
-# A name as a replacement of sed, which writes it as it is.
-as_it_is() { printf '%s' "$1" | sed 's/[&|\\]/\\&/g'; }
+# Escapes a name for the replacement of sed, which then writes it unchanged.
+escaped() { printf '%s' "$1" | sed 's/[&|\\]/\\&/g'; }
 
-# A text with its @NAMES@ filled in.
+# Prints a file with the values of its @NAMES@.
 filled() {
     headers=$(realpath --canonicalize-missing --relative-to="$libraries/cmake/ribjasper" "$prefix/include")
-    sed -e "s|@PREFIX@|$(as_it_is "$prefix")|" -e "s|@LIBDIR@|$(as_it_is "$libraries")|" -e "s|@VERSION@|$version|" \
-        -e "s|@MAJOR@|${version%%.*}|" -e "s|@HEADERS@|$(as_it_is "$headers")|" "$1"
+    sed -e "s|@PREFIX@|$(escaped "$prefix")|" -e "s|@LIBDIR@|$(escaped "$libraries")|" -e "s|@VERSION@|$version|" \
+        -e "s|@MAJOR@|${version%%.*}|" -e "s|@HEADERS@|$(escaped "$headers")|" "$1"
 }
 
-# put HOW SOURCE PLACE: installs what a line lists.
+# put HOW SOURCE PLACE: installs the files of one line of installed.txt.
 put() {
     install -d "$(dirname "$3")"
     case $1 in
@@ -55,7 +55,7 @@ put() {
     esac
 }
 
-# remove HOW SOURCE PLACE: removes what a line lists, and folders that are then empty.
+# remove HOW SOURCE PLACE: removes the files of one line of installed.txt, and folders that become empty.
 remove() {
     case $1 in
         tree | web) rm -rf "$3" ;;

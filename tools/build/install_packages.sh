@@ -9,15 +9,15 @@ wine wine64 gcc-mingw-w64-x86-64 g++-mingw-w64-x86-64 qemu-user gcc-aarch64-linu
 binaryen wabt esbuild libjavascriptcoregtk-4.0-bin lintian libunwind-dev libdw-dev libgstreamer-plugins-base1.0-dev
 gstreamer1.0-tools gstreamer1.0-plugins-base libvlccore-dev vlc-bin vlc-plugin-base gddrescue"
 [ "$(id -u)" = 0 ] && command -v apt-get >/dev/null && command -v dpkg-query >/dev/null || exit 0
-# A Rust compiler from elsewhere does as well.
+# A Rust compiler from another source also works.
 command -v rustc >/dev/null || packages="$packages rustc"
-lacking=
+missing=
 for package in $packages; do
-    dpkg-query --show --showformat='${db:Status-Status}' "$package" 2>/dev/null | grep -qx installed || lacking="$lacking $package"
+    dpkg-query --show --showformat='${db:Status-Status}' "$package" 2>/dev/null | grep -qx installed || missing="$missing $package"
 done
-[ -n "$lacking" ] || exit 0
+[ -n "$missing" ] || exit 0
 get() { DEBIAN_FRONTEND=noninteractive timeout 480 apt-get -qq -o Acquire::Retries=1 -o DPkg::Lock::Timeout=60 "$@"; }
-# One that cannot be had does not keep the others out.
-{ get install -y --no-install-recommends $lacking || { get update && get install -y --no-install-recommends $lacking; } ||
-    for package in $lacking; do get install -y --no-install-recommends "$package"; done; } </dev/null >/dev/null 2>&1
+# If one package is not available, the others are installed one by one.
+{ get install -y --no-install-recommends $missing || { get update && get install -y --no-install-recommends $missing; } ||
+    for package in $missing; do get install -y --no-install-recommends "$package"; done; } </dev/null >/dev/null 2>&1
 exit 0

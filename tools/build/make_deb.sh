@@ -1,5 +1,5 @@
 #!/bin/sh
-# Makes packages for Debian of what `make` and `make library` built, with dpkg-deb only, and leaves them in deb/:
+# Makes Debian packages from the results of `make` and `make library` with dpkg-deb, and writes them to deb/:
 # ribjasper (the program, its page and completions), libribjasper0 (the shared library), libribjasper-dev (header,
 # archive, pkg-config, CMake) and ribjasper-desk. Without lib/ it makes only the first, and reports this. Packages of the same
 # commit are equal byte for byte (SOURCE_DATE_EPOCH, or the time of the commit).
@@ -7,7 +7,7 @@ set -e
 cd "$(dirname "$0")/../.."
 command -v dpkg-deb >/dev/null || { echo "make_deb: dpkg-deb is missing (package dpkg)" >&2; exit 1; }
 [ -x bin/ribjasper ] || { echo "make_deb: there is no bin/ribjasper (make)" >&2; exit 1; }
-# To Debian a version before a release has a tilde. The number behind the hyphen counts the packages of a version.
+# Debian marks a version before a release with a tilde. The number after the hyphen counts the packages of a version.
 upstream=$(sed 's/-dev$/~dev/' VERSION)
 version=$upstream-1
 architecture=$(dpkg --print-architecture)
@@ -20,13 +20,13 @@ work=$(mktemp -d)
 trap 'rm -rf "$work"' EXIT
 mkdir -p deb
 
-# The newest version of the C library that a file asks for, as a dependency.
+# Prints the newest version of the C library that a file needs, as a dependency.
 libc_for() {
     newest=$(readelf --version-info --wide "$1" | grep -oE 'GLIBC_[0-9.]+' | sed 's/GLIBC_//' | sort -uV | tail -n 1)
     echo "libc6 (>= ${newest:-2.17})"
 }
 
-# The entries of the package's changelog: this version, and those before it that CHANGELOG.md dates.
+# Prints the entries of the package's changelog: this version, and the earlier versions with a date in CHANGELOG.md.
 entry() {
     echo "ribjasper ($1) unstable; urgency=medium"
     echo
@@ -42,31 +42,31 @@ entries() {
     done
 }
 
-# begin NAME: installs what tools/build/installed.txt lists for a package into its room.
+# begin NAME: installs the files that tools/build/installed.txt lists for a package into the package's own folder.
 begin() {
-    name=$1 room=$work/$1
-    tools/build/install.sh "$room" /usr "/usr/lib/$multiarch" "$name"
-    doc=$room/usr/share/doc/$name
+    name=$1 folder=$work/$1
+    tools/build/install.sh "$folder" /usr "/usr/lib/$multiarch" "$name"
+    doc=$folder/usr/share/doc/$name
     install -D -m 644 share/copyright "$doc/copyright"
-    mkdir -p "$room/DEBIAN"
+    mkdir -p "$folder/DEBIAN"
 }
 
 documents() { install -m 644 "$@" "$doc"; }
 
 # control_file NAME MODE: writes a file of the package's control area from standard input.
-control_file() { cat >"$room/DEBIAN/$1" && chmod "$2" "$room/DEBIAN/$1"; }
+control_file() { cat >"$folder/DEBIAN/$1" && chmod "$2" "$folder/DEBIAN/$1"; }
 
 # finish SUMMARY SECTION ARCHITECTURE DEPENDS [RECOMMENDS]: makes the package; standard input is its description.
 finish() {
-    # Pages of the manual are compressed, and so are the links between them.
-    find "$room/usr/share/man" -type l 2>/dev/null | while read -r link; do
+    # Debian compresses manual pages, so the links to them also end with .gz.
+    find "$folder/usr/share/man" -type l 2>/dev/null | while read -r link; do
         ln -s "$(readlink "$link").gz" "$link.gz"
         rm "$link"
     done
-    find "$room/usr/share/man" -type f ! -name '*.gz' -exec gzip -9n {} + 2>/dev/null || true
+    find "$folder/usr/share/man" -type f ! -name '*.gz' -exec gzip -9n {} + 2>/dev/null || true
     gzip -9nc CHANGELOG.md >"$doc/changelog.gz"
     entries | gzip -9n >"$doc/changelog.Debian.gz"
-    (cd "$room" && find usr -type f -print0 | LC_ALL=C sort -z | xargs -0 md5sum) | control_file md5sums 644
+    (cd "$folder" && find usr -type f -print0 | LC_ALL=C sort -z | xargs -0 md5sum) | control_file md5sums 644
     {
         echo "Package: $name"
         echo "Source: ribjasper"
@@ -80,18 +80,18 @@ finish() {
         [ -z "$4" ] || echo "Depends: $4"
         [ -z "$5" ] || echo "Recommends: $5"
         [ -z "$suggests" ] || echo "Suggests: $suggests"
-        echo "Installed-Size: $(du -sk --apparent-size "$room/usr" | cut -f1)"
+        echo "Installed-Size: $(du -sk --apparent-size "$folder/usr" | cut -f1)"
         echo "Description: $1"
         sed 's/^/ /'
     } | control_file control 644
-    find "$room" -newermt "@$SOURCE_DATE_EPOCH" -exec touch -hd "@$SOURCE_DATE_EPOCH" {} +
-    dpkg-deb --root-owner-group -Zxz --build "$room" "deb/${name}_${version}_$3.deb" >/dev/null
+    find "$folder" -newermt "@$SOURCE_DATE_EPOCH" -exec touch -hd "@$SOURCE_DATE_EPOCH" {} +
+    dpkg-deb --root-owner-group -Zxz --build "$folder" "deb/${name}_${version}_$3.deb" >/dev/null
     echo "deb/${name}_${version}_$3.deb"
 }
 
 suggests=ribjasper-desk
 begin ribjasper
-strip --remove-section=.note --strip-unneeded "$room/usr/bin/ribjasper"
+strip --remove-section=.note --strip-unneeded "$folder/usr/bin/ribjasper"
 documents docs/FORMATS.md docs/PROVED.md
 install -D -m 644 -t "$doc/examples" examples/hello.cue examples/hello.script
 finish "subcode of Compact Discs: graphics, texts and Q frames, both ways" sound "$architecture" \
@@ -108,11 +108,11 @@ fi
 
 suggests=
 begin libribjasper0
-strip --strip-unneeded "$room/usr/lib/$multiarch/libribjasper.so.0"
-chmod 644 "$room/usr/lib/$multiarch/libribjasper.so.0"
+strip --strip-unneeded "$folder/usr/lib/$multiarch/libribjasper.so.0"
+chmod 644 "$folder/usr/lib/$multiarch/libribjasper.so.0"
 echo "activate-noawait ldconfig" | control_file triggers 644
 echo "libribjasper 0 libribjasper0 (>= $upstream)" | control_file shlibs 644
-# Each call with the version that first had it.
+# Lists each call with the version that added it.
 {
     echo "libribjasper.so.0 libribjasper0 #MINVER#"
     echo "* Build-Depends-Package: libribjasper-dev"
@@ -128,7 +128,7 @@ This package has the shared library.
 END
 
 begin libribjasper-dev
-strip --strip-debug --enable-deterministic-archives "$room/usr/lib/$multiarch/libribjasper.a"
+strip --strip-debug --enable-deterministic-archives "$folder/usr/lib/$multiarch/libribjasper.a"
 install -D -m 644 -t "$doc/examples" examples/player.c examples/player.cpp examples/player.py examples/player.rs
 finish "player and tools for the subcode of Compact Discs - development files" libdevel "$architecture" \
     "libribjasper0 (= $version)" <<'END'
@@ -140,7 +140,7 @@ files of pkg-config and CMake, and examples.
 END
 
 begin ribjasper-desk
-# What Python compiles of its sources on installation is removed with them.
+# Python files that are compiled on installation are removed together with their sources.
 control_file postinst 755 <<'END'
 #!/bin/sh
 set -e

@@ -1,16 +1,16 @@
 #!/bin/sh
-# Makes a release in dist/ from what was committed and built (make, make library, make web), with SHA256SUMS:
+# Makes a release in dist/ from the commit and the built files (make, make library, make web), with SHA256SUMS:
 #   ribjasper-V.tar.gz                   the source
-#   ribjasper-V-x86_64-linux.tar.gz      program, desk, library, header and documents, to be unpacked anywhere
+#   ribjasper-V-x86_64-linux.tar.gz      program, desk, library, header and documents; it runs from any folder
 #   ribjasper-V-aarch64-linux.tar.gz     the same for 64-bit ARM
 #   ribjasper-V-x86_64-windows.zip       program, DLL, import and static libraries, header and documents
-#   ribjasper-V-static-libraries.tar.gz  libraries for macOS, iOS and Android: built, not run
+#   ribjasper-V-static-libraries.tar.gz  libraries for macOS, iOS and Android: built, not tested
 #   ribjasper-V-c.tar.gz                 the calls for web pages as one C file, for any other system
 #   ribjasper_desk-V-*.whl, .tar.gz      complete wheels and the source archive of the desk
 #   ribjasper-npm-V.tgz                  the npm package
 #   *.deb                                packages for Debian
-# If a tool is missing, its outputs are skipped and named; a release skips nothing. The files of the same commit are equal byte
-# for byte: all have the time of the commit.
+# If a tool is missing, its outputs are skipped and reported. A complete release skips nothing. Two releases of the same commit
+# are equal byte for byte, because all files have the time of the commit.
 set -e
 cd "$(dirname "$0")/../.."
 version=$(cat VERSION)
@@ -38,12 +38,12 @@ documents() { cp LICENSE-MIT LICENSE-APACHE share/copyright README.md CHANGELOG.
 
 git archive --format=tar --prefix="$name/" HEAD | gzip -n9 >"dist/$name.tar.gz"
 
-# built TARGET NAME: an archive that runs where it is unpacked, with a statically linked program.
-built() {
+# archive_for TARGET NAME: makes an archive that runs from any folder, with a statically linked program.
+archive_for() {
     target=$1 folder=$work/$2
     tools/build/build_target.sh program "$target" >/dev/null
     mkdir -p "$folder"
-    # Paths in the files for pkg-config and CMake are of /usr/local, where the archive can be copied to.
+    # The files for pkg-config and CMake contain paths in /usr/local, where users can copy the archive.
     tools/build/install.sh "$folder" /usr/local /usr/local/lib ribjasper libribjasper0 libribjasper-dev ribjasper-desk
     mv "$folder"/usr/local/* "$folder"
     rm -r "$folder/usr"
@@ -58,13 +58,13 @@ built() {
 }
 
 if command -v "${CC:-gcc}" >/dev/null; then
-    built x86_64-unknown-linux-gnu "$name-x86_64-linux"
+    archive_for x86_64-unknown-linux-gnu "$name-x86_64-linux"
 else
     skip "the archive for Linux, there is no C compiler"
 fi
 if command -v aarch64-linux-gnu-gcc >/dev/null; then
     tools/build/build_target.sh library aarch64-unknown-linux-gnu >/dev/null
-    built aarch64-unknown-linux-gnu "$name-aarch64-linux"
+    archive_for aarch64-unknown-linux-gnu "$name-aarch64-linux"
 else
     skip "the archive for 64-bit ARM, there is no aarch64-linux-gnu-gcc"
 fi
@@ -124,4 +124,4 @@ else
 fi
 (cd dist && LC_ALL=C sha256sum -- * >"$work/SHA256SUMS" && mv "$work/SHA256SUMS" .)
 cat dist/SHA256SUMS
-[ "$skipped" = 0 ] || echo "make_dist: $skipped parts were skipped; this is no whole release" >&2
+[ "$skipped" = 0 ] || echo "make_dist: $skipped parts were skipped, so this release is incomplete" >&2

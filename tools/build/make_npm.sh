@@ -1,6 +1,6 @@
 #!/bin/sh
 # Makes the npm package of lib/web: make_npm.sh FOLDER. It has the module with a 32-bit memory, which runs in every browser and
-# in Node without a flag. `npm pack` gives all files one time, so the same files make the same archive. No network is needed.
+# in Node without a flag. `npm pack` gives all files the same time, so the archive is reproducible. No network is needed.
 set -e
 cd "$(dirname "$0")/../.."
 [ -f lib/web/ribjasper32.wasm ] || { echo "make_npm: there is no lib/web/ribjasper32.wasm (make web, with binaryen)" >&2; exit 1; }

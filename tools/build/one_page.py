@@ -1,8 +1,9 @@
 #!/usr/bin/env python3
-"""Writes a page with its scripts and its library inside: one_page.py PAGE LIBRARY MODULE.
+"""Embeds the scripts and the library of a page in the page: one_page.py PAGE LIBRARY MODULE.
 
-The page has one `<script type="module" src="..">`, and one of its scripts the line `const MODULE = undefined;`. The script, the
-scripts that it imports, the library and the bytes of the module come into the page, so that a browser can open it as a file.
+PAGE must have exactly one `<script type="module" src="..">`, and its scripts exactly one line `const MODULE = undefined;`. The
+output contains the script, the scripts that it imports, the library and the bytes of the module, so a browser can open it as a
+file.
 """
 from __future__ import annotations
 
@@ -29,23 +30,23 @@ class Scripts:
         self.owners: dict[str, Path] = {}
 
     def add(self, path: Path) -> None:
-        """Adds a script behind those that it imports."""
+        """Adds a script after the scripts that it imports."""
         path = self.library.resolve() if path.name == LIBRARY else path.resolve()
         if path in self.texts:
             return
         text = path.read_text(encoding="utf-8")
         for names, place in IMPORT.findall(text):
             if " as " in names:
-                raise ValueError(f"{path.name} renames what it imports")
+                raise ValueError(f"{path.name} renames an import, which is not supported")
             self.add(path.parent / place)
         text = EXPORT.sub("", IMPORT.sub("", text))
         if re.search(r"^(import|export) ", text, re.MULTILINE):
-            raise ValueError(f"{path.name} imports or exports in a way that is not known here")
-        self.claim(path, text)
+            raise ValueError(f"{path.name} has an unsupported form of import or export")
+        self.record_names(path, text)
         self.texts[path] = text
 
-    def claim(self, path: Path, text: str) -> None:
-        """All scripts become one, so each name is declared by one of them."""
+    def record_names(self, path: Path, text: str) -> None:
+        """Records the declared names of a script. All scripts become one, so no two may declare the same name."""
         for one, several in DECLARED.findall(text):
             for name in [one] if one else re.findall(r"\w+", several):
                 other = self.owners.setdefault(name, path)
@@ -61,14 +62,14 @@ def with_scripts(page: Path, library: Path, module: bytes) -> str:
     content = page.read_text(encoding="utf-8")
     found = SCRIPT.findall(content)
     if len(found) != 1:
-        raise ValueError("the page has one script")
+        raise ValueError("the page must have exactly one script")
     scripts = Scripts(library)
     scripts.add(page.parent / found[0])
     text = scripts.text()
     if text.count(MODULE) != 1:
-        raise ValueError("the scripts have one line for the module")
+        raise ValueError(f"the scripts must have exactly one line {MODULE!r}")
     if "</script" in text or "<!--" in text:
-        raise ValueError("a script holds what ends a script of a page")
+        raise ValueError("a script contains text that ends a script element of a page")
     encoded = base64.b64encode(module).decode("ascii")
     inside = text.replace(MODULE, f'const MODULE = "{encoded}";')
     return SCRIPT.sub(lambda _: f'<script type="module">\n{inside}</script>', content)
@@ -78,9 +79,9 @@ def main() -> int:
     parser = argparse.ArgumentParser(description=__doc__.splitlines()[0])
     for name in ("page", "library", "module"):
         parser.add_argument(name, type=Path)
-    given = parser.parse_args()
+    arguments = parser.parse_args()
     try:
-        sys.stdout.write(with_scripts(given.page, given.library, given.module.read_bytes()))
+        sys.stdout.write(with_scripts(arguments.page, arguments.library, arguments.module.read_bytes()))
     except (OSError, ValueError) as error:
         print(f"one_page: {error}", file=sys.stderr)
         return 1

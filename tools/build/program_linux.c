@@ -1,5 +1,5 @@
-/* What the proved program asks of Linux beside the C library: its arguments and its error number. It stands in for the kit's
-   own C code on processors for which the kit has none. */
+/* The functions that the proved program needs in addition to the C library: its arguments and its error number. This file
+   replaces the kit's own C code on processors for which the kit has none. */
 #include <errno.h>
 #include <stddef.h>
 #include <string.h>
@@ -13,7 +13,7 @@ void rattle_set_errno(int error);
 static size_t count;
 static char **words;
 
-__attribute__((constructor)) static void keep(int argc, char **argv)
+__attribute__((constructor)) static void store_arguments(int argc, char **argv)
 {
     count = (size_t)argc;
     words = argv;
@@ -24,7 +24,7 @@ size_t rattle_arg_count(void)
     return count;
 }
 
-/* The length of an argument; -1 if there is no such argument, -2 if it does not fit, and then the room is full. */
+/* Copies an argument. Returns its length; -1 if there is no such argument; -2 if it does not fit, and then the room is full. */
 ssize_t rattle_arg(size_t i, char *to, size_t room)
 {
     size_t length;

@@ -1,8 +1,8 @@
-/* What the proved program asks of Windows: arguments and names of files in UTF-8, and bytes that pass unchanged. The proved
-   part calls these functions in place of POSIX's open, read, write, close and signal (translate.py --rename).
+/* The functions of Windows that the proved program needs: arguments and file names in UTF-8, and files without translation of
+   line ends. The proved part calls them instead of POSIX's open, read, write, close and signal (translate.py --rename).
 
-   A word that is no UTF-16 text becomes bytes that are no UTF-8 text, so the program refuses it as on Linux. A name may be
-   longer than MAX_PATH. There is no signal to ignore: a write to a closed pipe just fails. */
+   An argument that is not valid UTF-16 becomes bytes that are not valid UTF-8, so the program refuses it as on Linux. A name
+   may be longer than MAX_PATH. Windows has no signal to ignore: a write to a closed pipe fails. */
 #define WIN32_LEAN_AND_MEAN
 #include <windows.h>
 #include <shellapi.h>
@@ -18,7 +18,7 @@ enum {
     MOST_AT_ONCE = 1 << 20,
     /* An old console refuses larger writes. */
     MOST_TO_CONSOLE = 1 << 14,
-    /* From this length on a name is written out in full behind \\?\, for which MAX_PATH does not count. */
+    /* Names of at least this length become absolute names after \\?\, for which the limit MAX_PATH does not apply. */
     LONG_NAME = 240
 };
 
@@ -36,10 +36,10 @@ int windows_error_text(int error, char *to, size_t room);
 static size_t count;
 static char **words;
 
-/* The last error, by Linux's numbers, which the proved part knows. */
+/* The last error, as a Linux number, since the proved part knows these. */
 static int last;
 
-/* Writes a UTF-16 word as UTF-8, half a pair of surrogates as if it were a character. Returns the bytes it takes. */
+/* Converts UTF-16 to UTF-8. Half of a surrogate pair is converted as if it were a character. Returns the number of bytes. */
 static size_t encode(const wchar_t *from, char *to)
 {
     size_t n = 0;
@@ -57,7 +57,7 @@ static size_t encode(const wchar_t *from, char *to)
     return n;
 }
 
-/* Ends the process as the program does without memory. */
+/* Ends the process with the message and status of the program when it runs out of memory. */
 static void end_without_memory(void)
 {
     static const char line[] = "no memory\n";
@@ -65,7 +65,7 @@ static void end_without_memory(void)
     _exit(7);
 }
 
-/* Before main: takes the words of the command line, and has no stream change its bytes. */
+/* Runs before main: stores the arguments, and switches the three standard streams to binary mode. */
 __attribute__((constructor)) static void prepare(void)
 {
     int found = 0, i;
@@ -110,7 +110,7 @@ void rattle_set_errno(int error)
     last = error;
 }
 
-/* Takes the C library's error number over, by Linux's number. */
+/* Stores an error number of the C library as its Linux number. */
 static ptrdiff_t failed(int error)
 {
     last = error == ENAMETOOLONG ? 36 : error == EDEADLK ? 35 : error == ENOLCK ? 37 : error == ENOSYS ? 38
@@ -118,7 +118,7 @@ static ptrdiff_t failed(int error)
     return -1;
 }
 
-/* A name in UTF-16, a long one in full; null if it is no UTF-8 text or memory is short. */
+/* A name in UTF-16, absolute if it is long; null if it is not valid UTF-8 or memory runs out. */
 static wchar_t *widened(const char *name)
 {
     int room = MultiByteToWideChar(CP_UTF8, MB_ERR_INVALID_CHARS, name, -1, NULL, 0);
@@ -145,7 +145,7 @@ static wchar_t *widened(const char *name)
     return wide;
 }
 
-/* Opens a file to be read, the only way in which the program opens one. */
+/* Opens a file for reading; the program opens files for nothing else. */
 int windows_open(const char *name, int how, ...)
 {
     wchar_t *wide;
@@ -169,7 +169,7 @@ int windows_open(const char *name, int how, ...)
     return file < 0 ? (int)failed(EMFILE) : file;
 }
 
-/* The end of a pipe whose writer is gone is an end. */
+/* Reads bytes. A pipe whose writer has closed it is at its end. */
 ptrdiff_t windows_read(int file, void *to, size_t size)
 {
     int got = _read(file, to, (unsigned)(size < MOST_AT_ONCE ? size : MOST_AT_ONCE));
@@ -194,7 +194,7 @@ void *windows_signal(int number, void *handler)
     return NULL;
 }
 
-/* Writes the text of an error number, shortened to the room. */
+/* Writes the text of an error number, truncated to the room. */
 int windows_error_text(int error, char *to, size_t room)
 {
     return strerror_s(to, room, error);

@@ -1,12 +1,11 @@
 #!/usr/bin/env python3
 """Proves the libraries below crates, independent ones in parallel: prove_crates.py CRATE ..
 
-First prints an estimate of the time, and then each library that is proved. Proofs are kept in crates/*/out, so a call
-continues where a stopped one ended. `rt run` of the crates themselves verifies all of it again, so this script needs no
-trust.
+The script first prints an estimate of the time, and then each library when it is proved. Proofs are stored in crates/*/out, so
+a call continues where a stopped call ended. `rt run` of the crates verifies everything again, so nobody has to trust this script.
 
-seconds.tsv has the processor seconds of each crate. The crate with the longest chain above it comes first. --write updates
-the table after a run from nothing."""
+seconds.tsv has the processor seconds of each crate. The crate with the longest chain of crates above it is proved first. --write
+updates the table; it is for a run after `make clean`."""
 from __future__ import annotations
 
 import argparse
@@ -26,15 +25,15 @@ ROOT = pathlib.Path(__file__).resolve().parents[2]
 site.addsitedir(str(ROOT / "tools" / "shared"))
 from rattle import graph as graph  # noqa: E402
 
-# The processor seconds that each crate took once.
+# The measured processor seconds of each crate.
 TABLE = ROOT / "tools" / "build" / "seconds.tsv"
-# For a crate that is not in the table: the lines of code and proofs that a processor checks in a second, and the minimum time
-# of a crate in seconds.
+# For a crate that is not in the table: the lines of code and proofs that a processor checks per second, and the minimum time of
+# a crate in seconds.
 LINES_A_SECOND, LEAST_SECONDS = 45, 10
 # The estimate of the table has the weight of this many seconds of work; the measurements of this run have the rest.
 LEARNT_SECONDS = 60
-# The memory that a check needs.
-BYTES = 2_500_000_000
+# The memory in bytes that a check needs.
+CHECK_BYTES = 2_500_000_000
 
 
 def libraries(below: dict[str, list[str]], goals: list[str]) -> list[str]:
@@ -58,20 +57,21 @@ def files_of(name: str) -> list[pathlib.Path]:
 
 
 def stamps(names: list[str], below: dict[str, list[str]]) -> dict[str, str]:
-    """What a proof of each crate depends on: the kit, its files, and the crates below it."""
+    """A digest for each crate of everything that its proof depends on: the kit, its files, and the crates below it."""
     kit = subprocess.run(["rt", "version"], stdout=subprocess.PIPE, check=True).stdout
-    made: dict[str, str] = {}
+    stamp: dict[str, str] = {}
     for name in names:
         digest = hashlib.sha256(kit)
         for file in files_of(name):
             digest.update(str(file.relative_to(ROOT)).encode() + b"\0" + file.read_bytes())
         for it in sorted(below[name]):
-            digest.update(made[it].encode())
-        made[name] = digest.hexdigest()
-    return made
+            digest.update(stamp[it].encode())
+        stamp[name] = digest.hexdigest()
+    return stamp
 
 
-def kept(name: str) -> str:
+def stored_stamp(name: str) -> str:
+    """The stamp of the last proof of a crate, or an empty text."""
     file = ROOT / "crates" / name / "out" / "proved"
     return file.read_text() if file.exists() else ""
 
@@ -92,14 +92,14 @@ def seconds_by_lines(name: str) -> float:
 
 
 def run_measured(words: list[str], folder: pathlib.Path, log: IO[str]) -> tuple[int, float]:
-    """Runs a command; its status, and the processor seconds of all that it started."""
+    """Runs a command. Returns its status and the processor seconds of all processes that it started."""
     ran = subprocess.Popen(words, cwd=folder, stdin=subprocess.DEVNULL, stdout=log, stderr=subprocess.STDOUT)
     _, status, used = os.wait4(ran.pid, 0)
     ran.returncode = os.waitstatus_to_exitcode(status)
     return ran.returncode, used.ru_utime + used.ru_stime
 
 
-def spoken(seconds: float) -> str:
+def duration(seconds: float) -> str:
     return f"{seconds:.0f} seconds" if seconds < 100 else f"{seconds / 60:.0f} minutes"
 
 
@@ -108,27 +108,26 @@ def all_below(name: str, below: dict[str, list[str]]) -> set[str]:
     return {name}.union(*(all_below(it, below) for it in below[name]))
 
 
-def room_of(name: str, below: dict[str, list[str]]) -> pathlib.Path:
-    """A copy, by links, of a crate and the crates below it.
+def linked_copy(name: str, below: dict[str, list[str]]) -> pathlib.Path:
+    """Copies a crate and the crates below it, by hard links. Returns the folder of the copy.
 
-    `rt` locks the crates that it works on, so in one folder two proofs over the same library would wait for each
-    other."""
-    room = ROOT / "crates" / name / "out" / "room"
-    if (room / "crates" / name / "out").is_dir():
-        give_back(name, room)  # of a call that was stopped
-    shutil.rmtree(room, ignore_errors=True)
-    (room / "crates").mkdir(parents=True)
-    shutil.copy2(ROOT / "HANDLES", room)
+    `rt` locks the crates that it uses, so two proofs over the same library would wait for each other in one folder."""
+    copy = ROOT / "crates" / name / "out" / "room"
+    if (copy / "crates" / name / "out").is_dir():
+        move_results(name, copy)  # an earlier call was stopped
+    shutil.rmtree(copy, ignore_errors=True)
+    (copy / "crates").mkdir(parents=True)
+    shutil.copy2(ROOT / "HANDLES", copy)
     inside = all_below(name, below)
     lines = (ROOT / "crates.txt").read_text().splitlines(keepends=True)
-    (room / "crates.txt").write_text("".join(it for it in lines if it.split(":")[0].split(" ")[0] in inside))
+    (copy / "crates.txt").write_text("".join(it for it in lines if it.split(":")[0].split(" ")[0] in inside))
     for it in inside:
-        copy_crate(ROOT / "crates" / it, room / "crates" / it)
-    return room
+        copy_crate(ROOT / "crates" / it, copy / "crates" / it)
+    return copy
 
 
 def copy_crate(crate: pathlib.Path, place: pathlib.Path) -> None:
-    """Copies a crate by links, without the folder for copies in its `out`; other folders may have the same name."""
+    """Copies a crate by hard links, except the folder `out/room` with its own copy. Other folders may be called room too."""
 
     def skipped(folder: str, names: list[str]) -> set[str]:
         return {"room"}.intersection(names) if pathlib.Path(folder) == crate / "out" else set()
@@ -143,29 +142,29 @@ def link_or_copy(old: str, new: str) -> None:
         shutil.copy2(old, new)
 
 
-def give_back(name: str, room: pathlib.Path) -> None:
-    """Puts what was made in the room where it belongs, and clears the room."""
+def move_results(name: str, copy: pathlib.Path) -> None:
+    """Moves the results of a proof from the copy of a crate to the crate, and removes the copy."""
     here = ROOT / "crates" / name / "out"
-    for made in (room / "crates" / name / "out").iterdir():
-        kept = here / made.name
-        if kept.is_dir():
-            shutil.rmtree(kept)
-        os.replace(made, kept)
-    shutil.rmtree(room, ignore_errors=True)
+    for result in (copy / "crates" / name / "out").iterdir():
+        place = here / result.name
+        if place.is_dir():
+            shutil.rmtree(place)
+        os.replace(result, place)
+    shutil.rmtree(copy, ignore_errors=True)
 
 
 class Proving:
-    """What is proved of some crates, lowest first, what is left of them and what runs."""
+    """The state of a run: the crates that are proved, that remain, and that are being proved. `names` has the lowest first."""
 
     def __init__(
-        self, names: list[str], below: dict[str, list[str]], made: dict[str, str], lanes: int
+        self, names: list[str], below: dict[str, list[str]], stamp: dict[str, str], parallel: int
     ) -> None:
-        self.below, self.made, self.lanes = below, made, lanes
-        self.done = {it for it in names if kept(it) == made[it]}
+        self.below, self.stamp, self.parallel = below, stamp, parallel
+        self.done = {it for it in names if stored_stamp(it) == stamp[it]}
         self.left = [it for it in names if it not in self.done]
         table = read_table(TABLE)
         self.cost = {it: table.get(it) or seconds_by_lines(it) for it in self.left}
-        # The longest chain from a crate upwards decides what is proved first.
+        # The cost of the longest chain from a crate upwards. The crate with the highest one is proved first.
         self.chain = dict(self.cost)
         for name in reversed(self.left):
             for it in below[name]:
@@ -173,52 +172,52 @@ class Proving:
                     self.chain[it] = max(self.chain[it], self.cost[it] + self.chain[name])
         self.total = len(names)
         self.failed: list[str] = []
-        # When each crate began that is being proved, and how many processors it was given.
+        # The start time and the number of processors of each crate that is being proved.
         self.running: dict[str, float] = {}
         self.used: dict[str, int] = {}
-        # The seconds that what was proved here took, and those that were reckoned for it.
-        self.took, self.reckoned = 0.0, 0.0
-        # The processor seconds of each crate that was proved here.
+        # The total time of the crates that this run has proved, and the total estimate for them, in seconds.
+        self.elapsed, self.estimated = 0.0, 0.0
+        # The processor seconds of each crate that this run has proved.
         self.measured: dict[str, float] = {}
         self.news = threading.Condition()
 
     def pace(self) -> float:
-        """How many seconds one that was reckoned takes here, as far as this run has shown; the first minute shows little."""
-        return (LEARNT_SECONDS + self.took) / (LEARNT_SECONDS + self.reckoned)
+        """The ratio of measured to estimated time in this run. The measurements count more the longer the run lasts."""
+        return (LEARNT_SECONDS + self.elapsed) / (LEARNT_SECONDS + self.estimated)
 
     def seconds_left(self) -> float:
         rest = [*self.left, *self.running]
-        whole = max(sum(self.cost[it] for it in rest) / self.lanes, max((self.chain[it] for it in rest), default=0))
-        return whole * self.pace()
+        estimate = max(sum(self.cost[it] for it in rest) / self.parallel, max((self.chain[it] for it in rest), default=0))
+        return estimate * self.pace()
 
     def jobs(self, ready: int) -> int:
         """The number of processors for the next crate: those that no running or ready crate waits for."""
-        free = self.lanes - sum(self.used.values())
+        free = self.parallel - sum(self.used.values())
         return max(1, free - (ready - 1))
 
     def prove(self, name: str, jobs: int) -> None:
-        """Proves a crate with this number of processors and builds its library, over the proofs that earlier runs kept."""
+        """Proves a crate with this number of processors and builds its library. Proofs of earlier runs are reused."""
         folder = ROOT / "crates" / name
         os.makedirs(folder / "out", exist_ok=True)
-        room = room_of(name, self.below)
+        copy = linked_copy(name, self.below)
         with open(folder / "out" / "proving.log", "w") as log:
-            status, used = run_measured(["rt", "lib", "--jobs", str(jobs)], room / "crates" / name, log)
-            is_well = not status
-        give_back(name, room)
-        if is_well:
-            (folder / "out" / "proved").write_text(self.made[name])
+            status, used = run_measured(["rt", "lib", "--jobs", str(jobs)], copy / "crates" / name, log)
+            is_proved = not status
+        move_results(name, copy)
+        if is_proved:
+            (folder / "out" / "proved").write_text(self.stamp[name])
         with self.news:
             took = time.monotonic() - self.running.pop(name)
             del self.used[name]
-            self.took, self.reckoned = self.took + took, self.reckoned + self.cost[name]
-            if is_well:
+            self.elapsed, self.estimated = self.elapsed + took, self.estimated + self.cost[name]
+            if is_proved:
                 self.done.add(name)
                 self.measured[name] = used
-                left = spoken(self.seconds_left())
-                print(f"[{len(self.done)}/{self.total}] {name} is proved ({spoken(took)}); about {left} left", flush=True)
+                left = duration(self.seconds_left())
+                print(f"[{len(self.done)}/{self.total}] {name} is proved ({duration(took)}); about {left} left", flush=True)
             else:
                 self.failed.append(name)
-                print(f"{name} is not proved: crates/{name}/out/proving.log says why", flush=True)
+                print(f"{name} is not proved; the reason is in crates/{name}/out/proving.log", flush=True)
             self.news.notify()
 
     def run(self) -> bool:
@@ -226,7 +225,7 @@ class Proving:
             while self.left or self.running:
                 ready = [it for it in self.left if all(low in self.done for low in self.below[it])]
                 for place, name in enumerate(sorted(ready, key=lambda it: -self.chain[it])):
-                    if sum(self.used.values()) < self.lanes and not self.failed:
+                    if sum(self.used.values()) < self.parallel and not self.failed:
                         self.left.remove(name)
                         self.running[name] = time.monotonic()
                         self.used[name] = self.jobs(len(ready) - place)
@@ -237,15 +236,15 @@ class Proving:
         return not self.failed
 
 
-def lanes() -> int:
-    """The number of checks at a time: JOBS, or as many as processors and memory allow."""
+def parallel_checks() -> int:
+    """The number of parallel checks: the variable JOBS, or as many as processors and memory allow."""
     if os.environ.get("JOBS", "").isdigit():
         return max(1, int(os.environ["JOBS"]))
-    return max(1, min(len(os.sched_getaffinity(0)), available() // BYTES))
+    return max(1, min(len(os.sched_getaffinity(0)), available() // CHECK_BYTES))
 
 
 def available() -> int:
-    """How many bytes of memory can be had, those that hold files for reading once more among them."""
+    """The available memory in bytes, including the memory that caches files."""
     for line in pathlib.Path("/proc/meminfo").read_text().splitlines():
         name, _, amount = line.partition(":")
         if name == "MemAvailable":
@@ -253,13 +252,13 @@ def available() -> int:
     return os.sysconf("SC_AVPHYS_PAGES") * os.sysconf("SC_PAGE_SIZE")
 
 
-def alone() -> IO[bytes]:
-    """What keeps other calls in this checkout out while it is open, since they would use the same rooms."""
+def lock_checkout() -> IO[bytes]:
+    """Locks the checkout until the returned file is closed, since two calls would use the same copies of crates."""
     lock = open(__file__, "rb")
     try:
         fcntl.flock(lock, fcntl.LOCK_EX | fcntl.LOCK_NB)
     except BlockingIOError:
-        print("another call proves in this checkout: waiting until it ends", flush=True)
+        print("another call is proving in this checkout: waiting until it ends", flush=True)
         fcntl.flock(lock, fcntl.LOCK_EX)
     return lock
 
@@ -267,24 +266,24 @@ def alone() -> IO[bytes]:
 def main() -> int:
     below = graph()
     parser = argparse.ArgumentParser(
-        description="Proves the libraries that crates stand on, independent ones side by side."
+        description="Proves the libraries below crates, independent ones in parallel."
     )
     parser.add_argument("crates", nargs="+", choices=below, metavar="CRATE", help="a crate of the repository")
-    parser.add_argument("--write", action="store_true", help="write what was proved into the table; after `make clean` alone")
+    parser.add_argument("--write", action="store_true", help="write the measured times to the table; only after `make clean`")
     words = parser.parse_args()
     names = libraries(below, words.crates)
-    _lock = alone()
-    proving = Proving(names, below, stamps(names, below), lanes())
+    _lock = lock_checkout()
+    proving = Proving(names, below, stamps(names, below), parallel_checks())
     if proving.left:
-        number, how_long = len(proving.left), spoken(proving.seconds_left())
-        print(f"proving {number} of {len(names)} crates, {proving.lanes} at a time: about {how_long}", flush=True)
+        number, how_long = len(proving.left), duration(proving.seconds_left())
+        print(f"proving {number} of {len(names)} crates, {proving.parallel} at a time: about {how_long}", flush=True)
     try:
-        is_well = proving.run()
+        is_proved = proving.run()
         if words.write:
             write_table(TABLE, {**read_table(TABLE), **proving.measured})
-        return 0 if is_well else 1
+        return 0 if is_proved else 1
     except KeyboardInterrupt:
-        print("stopped; the next call goes on from here")
+        print("stopped; the next call continues from here")
         return 130
 
 

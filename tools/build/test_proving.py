@@ -11,20 +11,20 @@ import prove_crates
 
 
 def files_below(folder: pathlib.Path) -> dict[pathlib.Path, bytes]:
-    """The files below a folder by their places in it, but for what is made in `out`."""
+    """The contents of the files below a folder by relative path, without the results in `out`."""
     found = (it.relative_to(folder) for it in folder.rglob("*") if it.is_file())
     return {it: (folder / it).read_bytes() for it in found if it.parts[0] != "out"}
 
 
 class CopiesTest(unittest.TestCase):
-    def test_each_crate_is_copied_whole(self) -> None:
+    def test_each_crate_is_copied_completely(self) -> None:
         for name in prove_crates.graph():
-            with self.subTest(crate=name), tempfile.TemporaryDirectory(dir=prove_crates.ROOT) as room:
-                crate, copy = prove_crates.ROOT / "crates" / name, pathlib.Path(room) / name
+            with self.subTest(crate=name), tempfile.TemporaryDirectory(dir=prove_crates.ROOT) as folder:
+                crate, copy = prove_crates.ROOT / "crates" / name, pathlib.Path(folder) / name
                 prove_crates.copy_crate(crate, copy)
                 self.assertEqual(files_below(copy), files_below(crate))
 
-    def test_the_room_in_out_is_left_out(self) -> None:
+    def test_the_folder_room_in_out_is_not_copied(self) -> None:
         with tempfile.TemporaryDirectory() as folder:
             crate, copy = pathlib.Path(folder) / "crate", pathlib.Path(folder) / "copy"
             for place in ("out/room/crates", "out/rlib", "proofs/room"):
@@ -36,37 +36,37 @@ class CopiesTest(unittest.TestCase):
             self.assertTrue((copy / "proofs/room/file").exists())
 
 
-class AloneTest(unittest.TestCase):
+class LockTest(unittest.TestCase):
     def test_a_second_call_waits_for_the_first(self) -> None:
-        code = "import prove_crates; prove_crates.alone(); print('alone')"
+        code = "import prove_crates; prove_crates.lock_checkout(); print('locked')"
         folder = pathlib.Path(prove_crates.__file__).parent
-        with prove_crates.alone():
+        with prove_crates.lock_checkout():
             second = subprocess.Popen([sys.executable, "-c", code], cwd=folder, stdout=subprocess.PIPE, text=True)
             assert second.stdout is not None
             self.assertIn("waiting", second.stdout.readline())
             self.assertIsNone(second.poll())
-        self.assertEqual(second.communicate(timeout=60)[0], "alone\n")
+        self.assertEqual(second.communicate(timeout=60)[0], "locked\n")
 
 
 class OrderTest(unittest.TestCase):
-    def test_each_library_comes_after_what_it_stands_on(self) -> None:
+    def test_each_library_comes_after_the_libraries_below_it(self) -> None:
         below = prove_crates.graph()
         order = prove_crates.libraries(below, ["ribjasper", "ribjasper_c"])
         for place, name in enumerate(order):
             self.assertTrue(set(below[name]) <= set(order[:place]), name)
 
-    def test_all_that_a_crate_stands_on_is_below_it(self) -> None:
+    def test_all_below_has_the_crate_and_its_dependencies(self) -> None:
         below: dict[str, list[str]] = {"low": [], "high": ["low"]}
         self.assertEqual(prove_crates.all_below("high", below), {"low", "high"})
 
-    def test_a_crate_with_a_dear_chain_above_it_comes_first(self) -> None:
-        below: dict[str, list[str]] = {"dear": [], "low": [], "high": ["low"]}
+    def test_a_chain_costs_the_sum_of_its_crates(self) -> None:
+        below: dict[str, list[str]] = {"slow": [], "low": [], "high": ["low"]}
         with tempfile.TemporaryDirectory() as folder:
             table = pathlib.Path(folder) / "seconds.tsv"
-            prove_crates.write_table(table, {"dear": 60, "low": 20, "high": 50.4})
+            prove_crates.write_table(table, {"slow": 60, "low": 20, "high": 50.4})
             with unittest.mock.patch.object(prove_crates, "TABLE", table):
                 proving = prove_crates.Proving(list(below), below, dict.fromkeys(below, "a stamp"), 1)
-        self.assertEqual(proving.chain, {"dear": 60, "low": 70, "high": 50})
+        self.assertEqual(proving.chain, {"slow": 60, "low": 70, "high": 50})
 
 
 class TableTest(unittest.TestCase):
@@ -75,7 +75,7 @@ class TableTest(unittest.TestCase):
         self.assertLessEqual(seconds.keys(), prove_crates.graph().keys())
         self.assertTrue(all(it > 0 for it in seconds.values()))
 
-    def test_a_command_is_measured_with_all_that_it_starts(self) -> None:
+    def test_a_command_is_measured_with_the_processes_that_it_starts(self) -> None:
         code = "sum(range(3_000_000))"
         inner = f"import subprocess, sys; subprocess.run([sys.executable, '-c', '{code}']); sys.exit(3)"
         with tempfile.TemporaryFile("w+") as log:

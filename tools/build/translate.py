@@ -20,13 +20,13 @@ from typing import NamedTuple
 BUILD = Path(__file__).resolve().parent
 VISIBLE = re.compile(r"ribjasper_\w+|main$")
 DEFINED = re.compile(r"^define (?:(?:dso_local|hidden|protected|external) )*(?P<rest>.*?@(?P<name>[\w.$]+)\()", re.M)
-# The parts of the module that are only for Linux on x86-64: triple, layout, processor, and the stack probes of large frames.
-# Types have the same size and alignment on each target: 64-bit addresses, the lowest byte first.
+# The parts of the module that are specific to Linux on x86-64: triple, layout, processor, and the stack probes of large frames.
+# Types have the same size and alignment on each target: 64-bit addresses, little-endian.
 OF_LINUX = re.compile(r'^target (?:datalayout|triple) = .*\n|"probe-stack"="inline-asm" ?|"target-cpu"="[^"]*" ?', re.M)
 
 
 class Target(NamedTuple):
-    """A system: clang's name of it, and further words of clang."""
+    """A target system: its name for clang, and further arguments of clang."""
 
     triple: str
     words: tuple[str, ...] = ()
@@ -36,7 +36,7 @@ TARGETS = {
     "x86_64-unknown-linux-gnu": Target("x86_64-unknown-linux-gnu", ("-fPIC",)),
     "aarch64-unknown-linux-gnu": Target("aarch64-unknown-linux-gnu", ("-fPIC",)),
     "x86_64-pc-windows-gnu": Target("x86_64-w64-windows-gnu"),
-    # For incremental linkers the object would have the time in it.
+    # The object must not contain the time, as objects for incremental linkers do.
     "x86_64-pc-windows-msvc": Target("x86_64-pc-windows-msvc", ("-mno-incremental-linker-compatible",)),
     "x86_64-apple-darwin": Target("x86_64-apple-macos11"),
     "aarch64-apple-darwin": Target("arm64-apple-macos11"),
@@ -46,7 +46,7 @@ TARGETS = {
 
 
 def run_tool(name: str, *words: str) -> None:
-    """Runs one of the LLVM tools of the kit, which are one file under several names."""
+    """Runs an LLVM tool of the kit. All tools are one file; its name decides which tool it is."""
     rt = shutil.which("rt")
     if rt is None:
         sys.exit("translate: there is no rt")
@@ -55,15 +55,15 @@ def run_tool(name: str, *words: str) -> None:
         sys.exit(f"translate: {name} failed")
 
 
-def visible_alone(text: str) -> str:
-    """The module with every function internal that neither the header nor the system names."""
+def with_internal_functions(text: str) -> str:
+    """The module with all functions internal except the calls of the library and `main`."""
 
-    def kept(found: re.Match[str]) -> str:
+    def replaced(found: re.Match[str]) -> str:
         is_internal = found["rest"].startswith(("internal ", "private "))
-        is_seen = VISIBLE.match(found["name"])
-        return found[0] if is_internal or is_seen else f"define internal {found['rest']}"
+        is_visible = VISIBLE.match(found["name"])
+        return found[0] if is_internal or is_visible else f"define internal {found['rest']}"
 
-    return DEFINED.sub(kept, text)
+    return DEFINED.sub(replaced, text)
 
 
 def renamed(text: str, old: str, new: str) -> str:
@@ -71,7 +71,7 @@ def renamed(text: str, old: str, new: str) -> str:
 
 
 def with_heap(text: str) -> str:
-    """The module with the heap inside. A function that both declare is declared once."""
+    """The module with the functions of heap.ll. A function that both declare is declared once."""
     heap = (BUILD / "heap.ll").read_text()
     declared = set(re.findall(r"^declare .*?@(\w+)\(", text, re.M))
     for name in re.findall(r"^define .*?@(\w+)\(", heap, re.M):
@@ -86,18 +86,18 @@ def main() -> int:
     parser.add_argument("module")
     parser.add_argument("target", choices=TARGETS)
     parser.add_argument("object")
-    parser.add_argument("--cpu", help="the oldest processor that the code has to run on, if not any of that kind")
+    parser.add_argument("--cpu", help="the oldest processor that the code must run on (default: any of the architecture)")
     parser.add_argument("--rename", action="append", default=[], metavar="OLD=NEW", help="call a C function by another name")
     arguments = parser.parse_args()
     target = TARGETS[arguments.target]
-    with tempfile.TemporaryDirectory() as room:
-        module = f"{room}/module.ll"
+    with tempfile.TemporaryDirectory() as folder:
+        module = f"{folder}/module.ll"
         of_linux = ("--target=x86_64-unknown-linux-gnu", "-Xclang", "-disable-llvm-passes")
         run_tool("clang", *of_linux, "-S", "-emit-llvm", "-x", "ir", arguments.module, "-o", module)
-        text = visible_alone(OF_LINUX.sub("", Path(module).read_text()))
+        text = with_internal_functions(OF_LINUX.sub("", Path(module).read_text()))
         for pair in arguments.rename:
             text = renamed(text, *pair.split("=", 1))
-        # No call of malloc becomes one of calloc, so the library asks the C library for three functions of its heap only.
+        # clang must not turn calls of malloc into calls of calloc: the library uses only three functions of the C library's heap.
         text = re.sub(r"^(attributes #\d+ = \{)", r'\1 "no-builtin-calloc"', text, flags=re.M)
         Path(module).write_text(with_heap(text))
         words = [f"--target={target.triple}", "-O3", "-Wno-override-module", *target.words, "-c", "-x", "ir", module]

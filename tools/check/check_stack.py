@@ -16,7 +16,7 @@ from pathlib import Path
 
 TOP = Path(__file__).resolve().parents[2]
 site.addsitedir(str(TOP / "tools" / "build"))
-from build_over_gate import NOT_THERE  # noqa: E402
+from build_over_gate import NOT_PROVED  # noqa: E402
 
 # The program takes 412,272 bytes by this report.
 MOST = 450_000
@@ -35,7 +35,7 @@ def main() -> int:
     with tempfile.TemporaryDirectory(prefix="ribjasper-stack-") as room:
         build = [str(TOP / "tools" / "build" / "build_over_gate.py"), "ribjasper", "--program", f"{room}/ribjasper"]
         ran = subprocess.run(build, capture_output=True, text=True)
-    if ran.returncode == NOT_THERE:
+    if ran.returncode == NOT_PROVED:
         print("check_stack: skipped, since the gate has not just left what the program stands on")
         return 0
     found = reckoned(ran.stdout + ran.stderr)

@@ -28,7 +28,7 @@ from typing import Any
 
 TOP = Path(__file__).resolve().parents[2]
 site.addsitedir(str(TOP / "tools" / "build"))
-from prove_crates import lanes  # noqa: E402
+from prove_crates import parallel_checks  # noqa: E402
 
 FOLDERS = ("must-fail", "wrong-bodies")
 FLAGS = ["--jobs", "1"]
@@ -136,7 +136,7 @@ def try_functions(rt: ModuleType, crates: list[Any], jobs: int) -> list[str]:
 def main() -> int:
     parser = argparse.ArgumentParser(description="Has the checker try wrong bodies, which it has to refuse.")
     parser.add_argument("--by-function", action="store_true", help="those that name a function, and nothing but that function")
-    parser.add_argument("--jobs", type=int, default=lanes(), help="how many at a time (default: as many as fit)")
+    parser.add_argument("--jobs", type=int, default=parallel_checks(), help="how many at a time (default: as many as fit)")
     parser.add_argument("crates", nargs="*", help="the crates whose wrong bodies are tried (default: all)")
     arguments = parser.parse_args()
     os.chdir(TOP)

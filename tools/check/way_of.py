@@ -27,7 +27,7 @@ from typing import NamedTuple
 TOP = Path(__file__).resolve().parents[2]
 site.addsitedir(str(TOP / "tools" / "shared"))
 site.addsitedir(str(TOP / "tools" / "build"))
-from build_over_gate import NOT_THERE  # noqa: E402
+from build_over_gate import NOT_PROVED  # noqa: E402
 from rattle import graph, items  # noqa: E402
 
 KEPT = Path(__file__).resolve().with_suffix(".tsv")
@@ -276,7 +276,7 @@ def build(folder: Path) -> Path | None:
         "0",
     ]
     ran = subprocess.run(words, capture_output=True, text=True)
-    if ran.returncode == NOT_THERE:
+    if ran.returncode == NOT_PROVED:
         return None
     if ran.returncode:
         sys.exit(f"way_of: the program was not built: {(ran.stdout + ran.stderr)[-600:]}")
