@@ -8,23 +8,24 @@
    symbols in a stream or in a .cdg file: an instruction for the picture, and parity. Each block has room for four
    packs. A word is 24 symbols as they were read: a pack, perhaps with wrong symbols. A codeword is 24 symbols with
    valid parity. It is near a word if it differs from the word in at most two symbols. The idle pack is 24 zeros; it is
-   a codeword. The program of a disc is the part with the tracks. The lead-in is the part before the program.
+   a codeword. A stream is the blocks of a disc in order: first the lead-in, and then the program blocks, which contain
+   the tracks.
 
    Players. A player is a value of the type ribjasper_player. It receives blocks or packs, and has the picture that they
-   draw. The library has no global state, so players are independent. While no call uses a player, you may move its bytes
-   to another place and use only the new place from then on. To get two players that show the same, use
-   ribjasper_player_copy.
+   draw. The library has no global state, so players are independent. While no call uses a player, you may move the
+   bytes of the player to another place in memory. From then on, use only the new place. To get two players that show
+   the same, use ribjasper_player_copy.
 
    Threads. You may make calls from any thread. A call with a const player only reads the player, so any number of
-   threads may make such calls on one player at the same time. A call with a player that is not const must be the only
-   call on that player at that time. ribjasper_player_copy changes only its second player. Calls without a player have
+   threads may make such calls on one player at the same time. While a call with a player that is not const runs, no
+   other call may use that player. (ribjasper_player_copy changes only its second player.) Calls without a player have
    no data in common. Do not make calls from a signal handler. A forked process has its own copies of all players. If
    the parent had more than one thread, the child must not make calls that allocate or free memory.
 
    Pointers. A pointer must point to as many bytes or structs as its type or the comment of the call says. If a count or
-   a length is 0, its pointer may be null. No other pointer may be null, and the library does not check this. Two
-   arguments must not overlap, except where a comment allows it. While a call runs, the data behind its pointers to
-   const must not change. Numbers may have any value: a call refuses a number that is out of range.
+   a length is 0, the pointer that belongs to it may be null. No other pointer may be null; the library does not check
+   pointers. Two arguments must not overlap, except where a comment allows it. While a call runs, the data behind its
+   pointers to const must not change. Numbers may have any value: a call refuses a number that is out of range.
 
    Failure. A call that fails leaves its player unchanged. It also writes nothing, except where its comment says so.
 
@@ -42,7 +43,7 @@
 extern "C" {
 #endif
 
-/* If a call has this mark, the compiler warns about a program that ignores its return value. */
+/* If a call has this mark, the compiler warns if the return value of the call is ignored. */
 #if defined __cplusplus && __cplusplus >= 201703L
 #define RIBJASPER_NODISCARD [[nodiscard]]
 #elif defined __STDC_VERSION__ && __STDC_VERSION__ >= 202311L
@@ -86,7 +87,7 @@ typedef enum ribjasper_answer {
 #define RIBJASPER_DONE 0
 #define RIBJASPER_REFUSED (-1)
 
-#define RIBJASPER_ANSWER_TEXT 64 /* bytes of an answer in words, with a zero at the end */
+#define RIBJASPER_ANSWER_TEXT 64 /* bytes of a text of ribjasper_answer_text, with a zero at the end */
 
 /* Writes what an answer means, in English: at most 63 characters, padded with zeros. Pass only answers, not the counts
    that some calls return.
@@ -98,7 +99,7 @@ void ribjasper_answer_text(int32_t answer, char text[RIBJASPER_ANSWER_TEXT]);
 #define RIBJASPER_WIDTH 300    /* width of the screen in pixels */
 #define RIBJASPER_HEIGHT 216   /* height of the screen in pixels, with the border */
 #define RIBJASPER_PIXELS 64800 /* pixels of the screen, row by row from the top, each row from the left */
-#define RIBJASPER_COLOURS 16   /* colours of the table */
+#define RIBJASPER_COLOURS 16   /* colours of the colour table */
 #define RIBJASPER_PICTURE 194400 /* bytes of a picture: three for each pixel, as in RIBJASPER_RGB */
 #define RIBJASPER_WINDOW_LEFT 6     /* the first column of the window inside the border */
 #define RIBJASPER_WINDOW_TOP 12     /* the first row of the window */
@@ -139,9 +140,10 @@ uint64_t ribjasper_time_of_blocks(uint32_t blocks);
 uint64_t ribjasper_time_of_packs(uint32_t packs);
 
 /* These are the forms of a stream. A form says how the bytes of a stream are stored. RIBJASPER_RAW means raw blocks of
-   96 bytes. RIBJASPER_PACKS (the form `cooked` of the program) means packs of 24 bytes, four in each block of 96 bytes.
-   Their symbols are already next to each other, and a player corrects them by their parity. RIBJASPER_SECTORS means
-   sectors of 2,448 bytes, each with 2,352 bytes of audio and a raw block. Only calls on whole streams accept sectors.
+   96 bytes. RIBJASPER_PACKS (the form `cooked` of the commands) means packs of 24 bytes, four in each block of 96
+   bytes. The symbols of each pack are already next to each other. A player corrects these packs by their parity.
+   RIBJASPER_SECTORS means sectors of 2,448 bytes, each with 2,352 bytes of audio and a raw block. Only calls on whole
+   streams accept sectors.
 
    The packs of a .cdg file may have no valid parity. Do not feed such packs as RIBJASPER_PACKS: usually no codeword is
    near them, so they draw nothing and count as bad words. (The idle packs of such a file are codewords nevertheless.)
@@ -222,8 +224,9 @@ typedef struct ribjasper_pack {
 int32_t ribjasper_player_take(ribjasper_player *player, const uint8_t block[RIBJASPER_BLOCK], ribjasper_pack packs[4]);
 
 /* Draws one pack, as players draw the packs of a .cdg file: the low six bits of each byte are a symbol, and parity is
-   ignored. You may draw packs and feed blocks in any order. The screen shows what all of them have drawn since
-   ribjasper_player_open or ribjasper_player_begin, in this order. Drawing a pack does not disturb the stream of blocks.
+   ignored. You may draw packs and feed blocks in any order. The screen shows what all these calls have drawn since
+   ribjasper_player_open or ribjasper_player_begin, in the order of the calls. Drawing a pack does not disturb the
+   stream of blocks.
      player: the player
      pack: 24 bytes
    Returns RIBJASPER_DONE, or RIBJASPER_REFUSED if the player is closed. */
@@ -266,8 +269,8 @@ int32_t ribjasper_player_draw_all(ribjasper_player *player, const uint8_t *packs
 /* This struct has the counts of a player. The counts begin at 0 when the player is opened or a new stream begins. A
    player that was restored from a checkpoint continues with the counts of the checkpoint. `blocks` is the number of
    blocks, including the lead-in. `words` is the number of words that were complete in the program blocks. `bad` is the
-   number of these words with no codeword near. Packs that you draw yourself are not counted. `form` and `lead_in` are
-   those of the player's stream. `blocks` and `bad` saturate at 4,294,967,295. */
+   number of these words that have no codeword near. Packs that you draw yourself are not counted. `form` and `lead_in`
+   are those of the player's stream. `blocks` and `bad` saturate at 4,294,967,295. */
 typedef struct ribjasper_counts {
     uint64_t words;
     uint32_t form;
@@ -368,15 +371,14 @@ int32_t ribjasper_player_levels(const ribjasper_player *player, uint8_t levels[R
    Returns RIBJASPER_DONE, or RIBJASPER_REFUSED if the player is closed. */
 int32_t ribjasper_player_border(const ribjasper_player *player, uint8_t *border);
 
-/* Writes the offsets of the screen. The screen shows the memory from a place that is `across` pixels further right and
-   `down` pixels further down.
+/* Writes the offsets of the screen. A player has a memory of 300 by 216 pixels, into which packs draw. Inside the
+   border, pixel (x, y) of the screen shows pixel (x + across, y + down) of this memory.
      player: the player
      across, down: the outputs, 0 to 5 and 0 to 11
    Returns RIBJASPER_DONE, or RIBJASPER_REFUSED if the player is closed. */
 int32_t ribjasper_player_offsets(const ribjasper_player *player, uint8_t *across, uint8_t *down);
 
-/* Checkpoints. A checkpoint is a file with the state of a player. It has the same format as in the program's commands
-   `save` and `resume`. */
+/* Checkpoints. A checkpoint is a file with the state of a player. It has the format that `ribjasper save` writes. */
 #define RIBJASPER_CHECKPOINT 65045 /* bytes of the file */
 #define RIBJASPER_NO_CHECKPOINT 3  /* what ribjasper_player_load returns if the bytes are not a checkpoint */
 
@@ -393,32 +395,32 @@ RIBJASPER_NODISCARD int32_t ribjasper_player_save(const ribjasper_player *player
    This call allocates 65,056 bytes if the file is a checkpoint.
      player: the player
      file: the checkpoint, 65,045 bytes
-     byte: if the file is refused, the first byte of the first field that is out of range
+     byte: if the file is not a checkpoint, the number of the byte at which the first invalid field begins
    Returns RIBJASPER_DONE, or RIBJASPER_REFUSED if the player is closed, or RIBJASPER_NO_MEMORY if malloc failed. It
-   returns RIBJASPER_NO_CHECKPOINT if the file is not a checkpoint; only then it writes `byte`. */
+   returns RIBJASPER_NO_CHECKPOINT if the file is not a checkpoint; only in this case, it writes `byte`. */
 RIBJASPER_NODISCARD
 int32_t ribjasper_player_load(ribjasper_player *player, const uint8_t file[RIBJASPER_CHECKPOINT], uint32_t *byte);
 
 /* Copies an open player into another open player. The second player then shows the same and continues in the same way.
-   The player may have any form, and may have been fed any number of blocks.
+   The first player may have any form, and may have been fed any number of blocks.
      from: the player that is copied
      to: the player that changes
    Returns RIBJASPER_DONE, or RIBJASPER_REFUSED if one of them is closed or both are the same player. */
 RIBJASPER_NODISCARD int32_t ribjasper_player_copy(const ribjasper_player *from, ribjasper_player *to);
 
-/* Marks make seeking fast. A mark is a copy of a player at one place of a stream, in your own memory. At first, set all
-   marks to zeros; a mark of zeros is not set. After that, only the calls below may change marks. A list of marks belongs
-   to one stream, with one form and one lead-in. For another stream, set all marks to zeros again. A mark may be copied
-   byte for byte. */
+/* Marks make seeking fast. A mark is a copy of a player at one place of a stream, in your own memory. At first, fill
+   all marks with zeros, which means that they are not set. After that, only the calls below may change marks. A list of
+   marks belongs to one stream, with one form and one lead-in. For another stream, fill all marks with zeros again. You
+   may copy a mark byte for byte. */
 typedef struct ribjasper_mark {
     uint64_t place;       /* how many blocks or packs the player received; 0 if the mark is not set */
     uint64_t state[8135]; /* the state of the player */
 } ribjasper_mark;
 
 /* Seeks in a stream of blocks: the player gets the same state as after ribjasper_player_begin and feeding the first
-   `to` blocks. The call starts from the last set mark that is not after block `to`, or from the start of the stream if
-   there is none. On the way, it sets the marks. Mark k, from 0, is for the place (k + 1) * every. So if the marks up to
-   a place are set, a seek to this place feeds less than `every` blocks.
+   `to` blocks. Marks are numbered from 0, and mark k is for the place (k + 1) * every. The call starts from the last
+   mark that is set and not after block `to`. If there is no such mark, it starts from the start of the stream. On the
+   way, it sets the marks. So if all marks up to a place are set, a seek to this place feeds fewer than `every` blocks.
      player: the player, which must be open
      form, lead_in: as in ribjasper_player_begin
      blocks, count: the blocks of the stream from its start, including the lead-in, 96 bytes each, and their number
@@ -449,10 +451,10 @@ int32_t ribjasper_player_seek_packs(ribjasper_player *player, const uint8_t *pac
 #define RIBJASPER_TOUCHES_NOTHING 900
 #define RIBJASPER_TOUCHES_ALL 901     /* the whole memory, and the offsets */
 #define RIBJASPER_TOUCHES_BORDER 902
-#define RIBJASPER_TOUCHES_COLOURS 903 /* colours of the table */
+#define RIBJASPER_TOUCHES_COLOURS 903 /* colours of the colour table */
 #define RIBJASPER_TOUCHES_LEVELS 904
 
-/* Reports what the instruction of a pack can change on any screen. The instruction changes nothing else.
+/* Reports what the instruction of a pack can change in any player. The instruction changes nothing else.
      pack: 24 bytes
    Returns 0 to 899 for a tile of the memory (50 times its row plus its column), or one of RIBJASPER_TOUCHES_NOTHING to
    RIBJASPER_TOUCHES_LEVELS. The result is not a ribjasper_answer. */
@@ -517,7 +519,7 @@ int32_t ribjasper_text_pack_matches(const uint8_t pack[18]);
 void ribjasper_text_pack_symbols(const uint8_t pack[18], uint8_t symbols[24]);
 
 /* These are the kinds of a frame of the Q channel. Names in parentheses are fields of ribjasper_q_frame. */
-#define RIBJASPER_Q_PROGRAM 0   /* the position in the program: track, index, time and absolute */
+#define RIBJASPER_Q_PROGRAM 0   /* the position on the disc: track, index, time and absolute */
 #define RIBJASPER_Q_TRACK 1     /* table of contents: a track (track) and the start of its music (absolute) */
 #define RIBJASPER_Q_FIRST 2     /* the first track (track), the disc's type (disc): 0 CD-DA or CD-ROM, 16 CD-i, 32 XA */
 #define RIBJASPER_Q_LAST 3      /* the last track (track) */
@@ -532,7 +534,7 @@ void ribjasper_text_pack_symbols(const uint8_t pack[18], uint8_t symbols[24]);
 typedef struct ribjasper_q_frame {
     uint32_t kind;     /* one of the kinds above */
     uint32_t time;     /* kind 0: the distance from the start of the music; kinds 1 to 4: the time in the lead-in */
-    uint32_t absolute; /* the time from the start of the program area */
+    uint32_t absolute; /* the time from the start of program block 0 */
     uint8_t control;   /* 0 to 15: 8 four channels, 4 data, 2 copying permitted, 1 pre-emphasis */
     uint8_t mode;      /* the field ADR, 0 to 15 */
     uint8_t track;     /* 1 to 99 */
@@ -582,7 +584,7 @@ void ribjasper_blocks_to_planar(const uint8_t *blocks, size_t count, uint8_t *pl
      blocks, room: the output, and the number of blocks that fit into it */
 void ribjasper_blocks_from_planar(const uint8_t *planar, size_t count, uint8_t *blocks, size_t room);
 
-/* A tally has detailed counts of the blocks that a player was fed. Begin with zeros. Each count saturates. */
+/* A tally has detailed counts of the blocks that a player was fed. Initialize it with zeros. Each count saturates. */
 typedef struct ribjasper_tally {
     uint64_t blocks;         /* blocks */
     uint64_t clean;          /* words without a wrong symbol */
@@ -591,12 +593,12 @@ typedef struct ribjasper_tally {
     uint64_t bad;            /* words with no codeword near */
     uint64_t frames;         /* valid frames of the Q channel, at most one in each block; 0 for RIBJASPER_PACKS */
     uint64_t bad_frames;     /* frames that are not valid */
-    uint64_t frame_block;    /* the number of the block of the last valid frame, from 1, or 0 */
+    uint64_t frame_block;    /* the number of the block with the last valid frame, from 1; 0 if there is none */
     ribjasper_q_frame frame; /* this frame, or zeros */
 } ribjasper_tally;
 
 /* Feeds an open player the next block, as ribjasper_player_feed does, and adds its words and its Q frame to a tally. If
-   you use the tally from the first block on, its counts of words and frames are those of the program's command `check`
+   you use the tally from the first block on, its counts of words and frames are those of the command `ribjasper check`
    for all blocks so far. Saving, restoring or copying a player does not include the tally, so keep a copy of the tally
    together with a checkpoint.
      player: the player
@@ -614,7 +616,7 @@ typedef struct ribjasper_converted {
     uint32_t bad;
 } ribjasper_converted;
 
-/* These are the return values of calls on whole streams. They equal the exit statuses of the program. */
+/* These are the return values of calls on whole streams. They equal the exit statuses of the command ribjasper. */
 #define RIBJASPER_CONVERTED 0 /* done */
 #define RIBJASPER_DAMAGED 1   /* done, but some words have no codeword */
 #define RIBJASPER_USAGE 2     /* a number is out of range, for example `lead_in` above 450,000 */
@@ -637,52 +639,53 @@ RIBJASPER_NODISCARD
 int32_t ribjasper_convert(const uint8_t *stream, size_t length, uint32_t form, uint32_t lead_in, uint8_t *packs,
                           size_t room, ribjasper_converted *result);
 
-/* Mending. A disc may be read several times. From all readings, the calls below choose the best codeword for each word.
-   The symbols of word n are in the program blocks n / 4 to (n + 7) / 4, both rounded down. A block is unread if its 96
-   bytes are 0. If you know that a block was not read, write zeros over it.
+/* Mending. A disc may be read several times; the blocks from each time are a reading. From all readings, the calls
+   below choose the best codeword for each word. The symbols of word n are in the program blocks n / 4 to (n + 7) / 4,
+   both rounded down. A block is unread if its 96 bytes are 0. If you know that a block was not read, write zeros over
+   it.
 
    Each reading has its own symbols for word n. A reading has a codeword at word n if the codeword is near these
-   symbols. The number of symbols in which they differ is the distance of the codeword, 0 to 2. There are two
-   exceptions. If a block of the word is unread and the codeword is the idle pack, its distance is 3. If all blocks of
-   the word are unread, the word is unread, and the reading has no codeword there. A reading is quiet at a word if it
-   has the idle pack there, or if the word is unread.
+   symbols. The distance of the codeword is the number of symbols in which the codeword differs from these symbols, 0 to
+   2. There are two exceptions. If a block of the word is unread and the codeword is the idle pack, the distance is 3.
+   If all blocks of the word are unread, the word is unread, and the reading has no codeword there. A reading is quiet
+   at a word if it has the idle pack there, or if the word is unread.
 
-   Sometimes a drive returns no graphics for a part of a disc, so its reading has idle packs there. A reading misses
-   graphics at a word if it has the idle pack there and another reading shows that the word is not idle. For this, the
-   other reading needs a graphics pack at any distance, or another codeword at distance 0 that is not the idle pack. A
-   graphics pack has mode and item 9 and a known instruction. A quiet stretch is a row of words at which the reading is
-   quiet. If a reading misses graphics at one word of a quiet stretch, it lacks graphics at every word of this stretch.
-   A codeword is doubtful if its distance is 1 or 2 and discs do not use its mode and item. Discs use 8, 9, 10 and 24.
-   The idle pack is never doubtful.
+   Sometimes a drive returns no graphics for a part of a disc, so the reading has idle packs there. A reading misses
+   graphics at a word if it has the idle pack there and another reading shows that the word is not idle. Another reading
+   shows this if it has a graphics pack there (at any distance), or any codeword at distance 0 except the idle pack. In
+   a graphics pack, symbol 0 (mode and item) is 9, and symbol 1 is a known instruction. A quiet stretch is a run of
+   successive words at which the reading is quiet. If a reading misses graphics at one word of a quiet stretch, it lacks
+   graphics at every word of this stretch. A codeword is doubtful if its distance is 1 or 2 and its symbol 0 is not 8,
+   9, 10 or 24. (Discs use only these modes and items.) The idle pack is never doubtful.
 
    Two kinds of codewords do not count. The first kind is the idle pack of a reading that lacks graphics at the word. The
    second kind is a doubtful codeword at a word at which some reading is quiet.
 
-   Of the codewords that count, the result is the one with the smallest distance. If several have this distance, the
-   result is the one that most readings have; if there is a tie, there is no result. If no codeword counts, two readings
-   may agree on a codeword. For this, both must have no codeword at the word, and the word must not be unread in either.
-   The result is then the codeword on which they agree, unless another pair of readings agrees on a different one. Two
-   readings agree on a codeword if this sum is at most four: twice the number of symbols that both have equally wrong,
-   plus the number of symbols in which they differ.
+   Of the codewords that count, the result is the one with the smallest distance. If several codewords have this
+   distance, the result is the one that counts in the most readings, at any distance. If there is a tie, there is no
+   result. If no codeword counts, the result is the codeword on which two readings agree. If another pair of readings
+   agrees on a different codeword, there is no result. Two readings agree on a codeword if this sum is at most four:
+   twice the number of symbols that both have equally wrong, plus the number of symbols in which they differ. A reading
+   can agree with another only if it has no codeword at the word, and the word is not unread in it.
 
    Suppose that a reading has a codeword at distance 0 at every word. Then these codewords are the result, under two
-   conditions. First, if another reading has a codeword at distance 0 at a word, it is the same codeword or the idle
-   pack. Second, if this reading has the idle pack at a word, no other reading has a graphics pack there, at any
-   distance. Random symbols look like a graphics pack once in 28 million words. The Q frames of this reading do not
-   matter. There is one exception: a block in which all 96 bytes are 0 counts as unread, so its idle packs do not have
-   distance 0.
+   conditions. First, if another reading has a codeword at distance 0 at a word, this codeword is the same one, or the
+   idle pack. Second, if this reading has the idle pack at a word, no other reading has a graphics pack there, at any
+   distance. (Random symbols look like a graphics pack only once in 28 million words.) The Q frames of this reading do
+   not matter. There is one exception: a block in which all 96 bytes are 0 counts as unread, so its idle packs do not
+   have distance 0.
 
    If each reading has at most two wrong symbols in each word, the result contains every pack. Suppose that only one
    reading has codewords that count. Then the result is what ribjasper_convert writes for this reading, with two
    exceptions: doubtful codewords, and words on which two readings agree. The order of the readings does not change the
-   result. At a word at which several readings have the same codeword at the same distance, the order decides only which
-   reading is named as the source. */
+   result. If several readings have the same codeword at the same distance, the order decides which of these readings is
+   named as the source. */
 
-/* This struct is the result of mending two readings. Each word is counted in exactly one of five numbers. `both` counts
-   words whose codeword both readings have. `of_first` and `of_second` count words whose codeword only one reading has.
-   `agreed` counts words at which no codeword counts and both readings agree on one. `none` counts words without a
-   codeword, which are written as 24 zeros. The sum of the five numbers is the number of words. `bytes` is 24 times this
-   number, and `blocks` is the number of program blocks. */
+/* This struct is the result of mending two readings. Five fields are numbers of words, and each word is in exactly one
+   of them. `both`: words whose codeword both readings have. `of_first` and `of_second`: words whose codeword only the
+   first or only the second reading has. `agreed`: words for which no codeword of a reading counts, but both readings
+   agree on a codeword. `none`: words without a codeword, which are written as 24 zeros. The sum of the five numbers is
+   the number of words. `bytes` is 24 times this number, and `blocks` is the number of program blocks. */
 typedef struct ribjasper_mended {
     uint64_t bytes;
     uint32_t blocks;
@@ -747,23 +750,23 @@ int32_t ribjasper_mend_readings(const uint8_t *readings, size_t length, uint32_t
 /* Mends readings as ribjasper_mend_readings does, into a stream of blocks. The stream is as long as each reading,
    including the lead-in. The symbols of a mended word are those of its codeword.
 
-   All other symbols of a block come from one reading whose block is not unread; if all are unread, they are 0. It is
-   the reading that agrees with the chosen codewords in the most symbols of this block. If several readings do, the list
-   of symbols that most readings have is used. If several lists are equally frequent, the greatest of them in
-   lexicographic order is used.
+   All other symbols of a block come from one reading whose block is not unread. If the block is unread in all readings,
+   these symbols are 0. Of these readings, the call uses the one that agrees with the chosen codewords in the most
+   symbols of this block. If there is a tie, it uses the reading whose other symbols most readings have. If there is
+   still a tie, it uses the reading whose list of symbols is the greatest in lexicographic order.
 
-   P and Q of a block come from one of the readings that have a good Q frame there. If there is none, they come from one
-   of those whose block is not unread. The list of the block's P and Q bits that most of these readings have is used. If
-   several lists are equally frequent, the greatest of them in lexicographic order is used.
+   P and Q of a block come from one of the readings that have a good Q frame there. If no reading has one, P and Q come
+   from one of the readings whose block is not unread. Of the lists of P and Q bits that these readings have for the
+   block, the most frequent is used. If several lists are equally frequent, the greatest of them in lexicographic order
+   is used.
 
-   The order of the readings changes no byte of the stream. If you convert this stream with ribjasper_convert, the packs
-   of all mended words are their codewords. If there is only one reading, the stream is that reading with its words
-   corrected.
+   The order of the readings changes no byte of the stream. If you convert this stream with ribjasper_convert, each
+   mended word becomes its codeword. If there is only one reading, the stream is that reading with its words corrected.
      blocks, room: the output and its size in bytes, at least the size of one reading; it must not overlap the readings
      sources, words: as in ribjasper_mend_readings, but this output is always written
      result: the counts; result->bytes is the size of the stream
-   Returns the same as ribjasper_mend_readings; RIBJASPER_NO_ROOM if `room` is smaller than a reading or `words` is below
-   the number of words. This call allocates nothing. */
+   Returns the same as ribjasper_mend_readings, with one difference: RIBJASPER_NO_ROOM means that `room` is smaller than
+   a reading, or that `words` is below the number of words. This call allocates nothing. */
 RIBJASPER_NODISCARD
 int32_t ribjasper_mend_stream(const uint8_t *readings, size_t length, uint32_t count, uint32_t lead_in,
                               uint8_t *blocks, size_t room, uint8_t *sources, size_t words,
@@ -777,12 +780,12 @@ typedef struct ribjasper_mend_reported {
     uint32_t lost[RIBJASPER_READINGS];
 } ribjasper_mend_reported;
 
-/* Does the same as ribjasper_mend_readings, but writes this report in place of the result. */
+/* Does the same as ribjasper_mend_readings, but writes a report (ribjasper_mend_reported) in place of the result. */
 RIBJASPER_NODISCARD
 int32_t ribjasper_mend_report(const uint8_t *readings, size_t length, uint32_t count, uint32_t lead_in, uint8_t *packs,
                               size_t room, uint8_t *sources, size_t words, ribjasper_mend_reported *report);
 
-/* Does the same as ribjasper_mend_stream, but writes this report in place of the result. */
+/* Does the same as ribjasper_mend_stream, but writes a report (ribjasper_mend_reported) in place of the result. */
 RIBJASPER_NODISCARD
 int32_t ribjasper_mend_stream_report(const uint8_t *readings, size_t length, uint32_t count, uint32_t lead_in,
                                      uint8_t *blocks, size_t room, uint8_t *sources, size_t words,
@@ -810,8 +813,8 @@ typedef struct ribjasper_planned {
     uint32_t number;   /* the number that the reason below explains, or 0 */
 } ribjasper_planned;
 
-/* These are the reasons why there is no plan. The program's `author` checks them in this order. (It checks the length of
-   the script only after the lines of the sheet.) */
+/* These are the reasons why there is no plan. The command `ribjasper author` checks them in this order. (It checks the
+   length of the script only after the lines of the sheet.) */
 #define RIBJASPER_TEXT_TOO_LONG 1   /* the sheet or the script has more than 67,108,864 bytes */
 #define RIBJASPER_SHEET_REFUSED 2   /* a line of the sheet is refused; the number is the reason: 1 unknown-command,
     2 second-file, 3 misplaced, 4 bad-argument, 5 repeated, 6 no-index, 7 not-audio, 8 number-order, 9 index-order,
@@ -830,7 +833,7 @@ typedef struct ribjasper_planned {
 #define RIBJASPER_LATE 4        /* pictures are late; their rows have `late` 1 */
 
 /* Plans a disc from a cue sheet and a picture script, and writes one row for each picture. `late` is computed for each
-   picture as if all earlier pictures were on time. The program's `author` reports the first late picture.
+   picture as if all earlier pictures were on time. The command `ribjasper author` reports the first late picture.
      sheet, sheet_length, script, script_length: the texts of the cue sheet and of the script, and their lengths in bytes
      lead_in: the number of lead-in blocks, at most 450,000
      audio: the number of audio blocks, at most 449,999 (above 449,849, the disc is too long)
@@ -839,8 +842,8 @@ typedef struct ribjasper_planned {
    Returns RIBJASPER_PLANNED or RIBJASPER_LATE if the rows were written. Otherwise no row is written.
    RIBJASPER_NOT_PLANNED: there is no plan, and `result` has the reason. RIBJASPER_NO_ROOM: there are more pictures than
    rows, and `result` has the numbers of pictures and blocks. RIBJASPER_USAGE: a number is out of range; `result` is not
-   written. RIBJASPER_NO_MEMORY: malloc failed; `result` is not written. The last answer comes only if neither text is
-   too long and no line is refused. This call allocates memory. */
+   written. RIBJASPER_NO_MEMORY: malloc failed; `result` is not written. RIBJASPER_NO_MEMORY is possible only if both
+   texts are short enough and all their lines are valid. This call allocates memory. */
 RIBJASPER_NODISCARD
 int32_t ribjasper_plan(const uint8_t *sheet, size_t sheet_length, const uint8_t *script, size_t script_length,
                        uint32_t lead_in, uint32_t audio, ribjasper_plan_row *rows, size_t room,
@@ -878,8 +881,8 @@ typedef struct ribjasper_sheet_result {
    Returns RIBJASPER_CONVERTED if the rows were written. Otherwise no row is written. RIBJASPER_TORN: a line has an
    error, and `result` has the number of this line. RIBJASPER_NO_ROOM: there are more index lines than rows, and
    `result` has all counts. RIBJASPER_USAGE: the sheet has more than 67,108,864 bytes; `result` is not written.
-   RIBJASPER_NO_MEMORY: malloc failed; `result` is not written. The last answer comes only if no line has an error. This
-   call allocates memory. */
+   RIBJASPER_NO_MEMORY: malloc failed; `result` is not written. RIBJASPER_NO_MEMORY is possible only if all lines are
+   valid. This call allocates memory. */
 RIBJASPER_NODISCARD int32_t ribjasper_sheet(const uint8_t *sheet, size_t length, ribjasper_sheet_row *rows, size_t room,
                                             ribjasper_sheet_result *result);
 
@@ -893,11 +896,11 @@ RIBJASPER_NODISCARD int32_t ribjasper_sheet(const uint8_t *sheet, size_t length,
      kind: RIBJASPER_TITLE, RIBJASPER_PERFORMER or RIBJASPER_SONGWRITER
      place: 0 for the album, k for the k-th track
      out, room: the output, and its size in bytes
-     bytes: the length of the text, 0 if the sheet has none
+     bytes: the output: the length of the text, or 0 if the sheet has no such text
    Returns RIBJASPER_CONVERTED. RIBJASPER_NO_ROOM: the text is longer than the output, and only `bytes` is written. With
    every other answer, nothing is written. RIBJASPER_USAGE: there is no such kind or place, or the sheet has more than
-   67,108,864 bytes. RIBJASPER_TORN: a line has an error. RIBJASPER_NO_MEMORY: malloc failed; this comes only if no line
-   has an error. This call allocates memory. */
+   67,108,864 bytes. RIBJASPER_TORN: a line has an error. RIBJASPER_NO_MEMORY: malloc failed; this answer is possible
+   only if all lines are valid. This call allocates memory. */
 RIBJASPER_NODISCARD int32_t ribjasper_sheet_text(const uint8_t *sheet, size_t length, uint32_t kind, uint32_t place,
                                                  uint8_t *out, size_t room, uint32_t *bytes);
 
@@ -905,16 +908,16 @@ RIBJASPER_NODISCARD int32_t ribjasper_sheet_text(const uint8_t *sheet, size_t le
 
 #define RIBJASPER_NO_TIME 0xFFFFFFFFu /* in place of an absolute time */
 
-/* If a block has no valid Q frame, one of these numbers is in place of the kind of its frame. (The kinds are
-   RIBJASPER_Q_PROGRAM, 0, to RIBJASPER_Q_OTHER, 7.) */
+/* If a block has no valid Q frame, one of these numbers replaces the kind of frame. (The kinds are RIBJASPER_Q_PROGRAM,
+   0, to RIBJASPER_Q_OTHER, 7.) */
 #define RIBJASPER_Q_NONE 253      /* a stream of RIBJASPER_PACKS has no Q channel */
 #define RIBJASPER_Q_BAD_FIELD 254 /* the CRC is right, but a field is out of its range */
 #define RIBJASPER_Q_BAD_CHECK 255 /* the CRC is wrong; this includes 96 zero bits */
 
 /* This struct is a row of a survey. It describes one block of a stream. The row counts the words whose last symbol is
-   in the block. In program block b these are the words 4 b - 7 to 4 b - 4 (none below 0). In a block of RIBJASPER_PACKS
-   they are its four words. In a lead-in block there are none. The sums over all rows are the numbers clean, one, two,
-   bad, q-good and q-bad of the program's command `check`. */
+   in the block. In program block b, these are the words 4 b - 7 to 4 b - 4 (none below 0). In a block of
+   RIBJASPER_PACKS, they are the four words of the block. In a lead-in block, there are none. The sums over all rows are
+   the numbers clean, one, two, bad, q-good and q-bad of the command `ribjasper check`. */
 typedef struct ribjasper_row {
     uint32_t absolute; /* the absolute time in blocks, if the frame is of kind 0; otherwise RIBJASPER_NO_TIME */
     uint8_t clean;     /* words without a wrong symbol */
@@ -965,17 +968,17 @@ typedef struct ribjasper_listed {
 #define RIBJASPER_TEXT_NO_SIZE 9    /* one of the three packs with the sizes is missing */
 #define RIBJASPER_TEXT_MALFORMED 10 /* byte `byte` of pack `seq` is invalid */
 
-/* Lists the texts of a lead-in. The output has the same lines as that of the program's command `text`.
+/* Lists the texts of a lead-in. The output has the same lines as that of the command `ribjasper text`.
      stream, length: the stream, and its length in bytes
      form: RIBJASPER_RAW or RIBJASPER_SECTORS
      lead_in: the number of lead-in blocks, at most 450,000
      out, room: the output, and its size in bytes
      result: the counts, or the missing or invalid pack
-   Returns RIBJASPER_CONVERTED. RIBJASPER_TEXT_MISSING, RIBJASPER_TEXT_NO_SIZE or RIBJASPER_TEXT_MALFORMED: the texts are
-   refused, and only `result` is written. With every other answer, nothing is written. RIBJASPER_USAGE: `form` or
+   Returns RIBJASPER_CONVERTED. RIBJASPER_TEXT_MISSING, RIBJASPER_TEXT_NO_SIZE or RIBJASPER_TEXT_MALFORMED: the texts
+   are refused, and only `result` is written. With every other answer, nothing is written. RIBJASPER_USAGE: `form` or
    `lead_in` is out of range. RIBJASPER_TORN: the stream ends within a block, or is too long. RIBJASPER_NO_ROOM: the
-   output is too small. RIBJASPER_NO_MEMORY: malloc failed; this comes only if the texts are not refused. This call
-   allocates memory. */
+   output is too small. RIBJASPER_NO_MEMORY: malloc failed; this answer is possible only if the texts are not refused.
+   This call allocates memory. */
 RIBJASPER_NODISCARD
 int32_t ribjasper_texts(const uint8_t *stream, size_t length, uint32_t form, uint32_t lead_in, uint8_t *out, size_t room,
                         ribjasper_listed *result);
