@@ -323,7 +323,7 @@ int32_t ribjasper_player_picture(const ribjasper_player *player, uint8_t bytes[R
 /* These are the formats of pixels. Each format has a number, and its comment lists the bytes of a pixel in order. If the
    colour of a pixel has the transparency level L, its opacity is 255 - (4 L + L / 16). So level 0 is opaque (255), and
    level 63 is transparent (0). */
-#define RIBJASPER_INDEXED 0     /* 1 byte: the number of its colour */
+#define RIBJASPER_INDEXED 0     /* 1 byte: the colour number */
 #define RIBJASPER_RGB 1         /* 3 bytes: red, green, blue; each is 17 times the four bits of the colour */
 #define RIBJASPER_RGBA 2        /* 4 bytes: red, green, blue, 255 */
 #define RIBJASPER_BGRA 3        /* 4 bytes: blue, green, red, 255 */
@@ -572,14 +572,14 @@ void ribjasper_block_to_planar(const uint8_t block[RIBJASPER_BLOCK], uint8_t pla
      block: the output, 96 bytes */
 void ribjasper_block_from_planar(const uint8_t planar[RIBJASPER_BLOCK], uint8_t block[RIBJASPER_BLOCK]);
 
-/* Converts many raw blocks to the planar form. It converts as many blocks as there are in the input and fit into the
-   output. The rest of the output stays unchanged.
+/* Converts many raw blocks to the planar form: all blocks of the input, or as many as fit into the output. The rest of
+   the output stays unchanged.
      blocks, count: raw blocks of 96 bytes, and their number
      planar, room: the output, and the number of blocks that fit into it */
 void ribjasper_blocks_to_planar(const uint8_t *blocks, size_t count, uint8_t *planar, size_t room);
 
-/* Converts many blocks from the planar form to the raw form. It converts as many blocks as there are in the input and
-   fit into the output. The rest of the output stays unchanged.
+/* Converts many blocks from the planar form to the raw form: all blocks of the input, or as many as fit into the
+   output. The rest of the output stays unchanged.
      planar, count: planar blocks of 96 bytes, and their number
      blocks, room: the output, and the number of blocks that fit into it */
 void ribjasper_blocks_from_planar(const uint8_t *planar, size_t count, uint8_t *blocks, size_t room);
@@ -681,11 +681,12 @@ int32_t ribjasper_convert(const uint8_t *stream, size_t length, uint32_t form, u
    result. If several readings have the same codeword at the same distance, the order decides which of these readings is
    named as the source. */
 
-/* This struct is the result of mending two readings. Five fields are numbers of words, and each word is in exactly one
-   of them. `both`: words whose codeword both readings have. `of_first` and `of_second`: words whose codeword only the
-   first or only the second reading has. `agreed`: words for which no codeword of a reading counts, but both readings
-   agree on a codeword. `none`: words without a codeword, which are written as 24 zeros. The sum of the five numbers is
-   the number of words. `bytes` is 24 times this number, and `blocks` is the number of program blocks. */
+/* This struct is the result of mending two readings. Five fields are numbers of words, and each word is counted in
+   exactly one of them. `both`: words whose codeword both readings have. `of_first` and `of_second`: words whose
+   codeword only the first or only the second reading has. `agreed`: words for which no codeword of a reading counts,
+   but both readings agree on a codeword. `none`: words without a codeword, which are written as 24 zeros. The sum of
+   the five numbers is the number of words. `bytes` is 24 times this number, and `blocks` is the number of program
+   blocks. */
 typedef struct ribjasper_mended {
     uint64_t bytes;
     uint32_t blocks;
@@ -867,7 +868,7 @@ typedef struct ribjasper_sheet_row {
 typedef struct ribjasper_sheet_result {
     uint32_t rows;         /* index lines, at most 9,900 */
     uint32_t tracks;       /* tracks, 1 to 99 */
-    uint32_t line;         /* the first refused line, from 1 (the end counts as the line after the last), or 0 */
+    uint32_t line;         /* the first refused line, from 1 (at the end of the sheet: the last line plus 1), or 0 */
     uint32_t why;          /* the reason, a number listed at RIBJASPER_SHEET_REFUSED, or 0 */
     uint8_t has_catalogue; /* 1 if the sheet has a catalogue number, or 0 */
     uint8_t catalogue[13]; /* the digits of this number in ASCII, or zeros */
