@@ -3,7 +3,7 @@
 
 Programs that are linked with the library depend on the names of its calls, the constants of the header, the layout of its
 structs, the soname and the versions of the symbols. The list has a line for each, with the version that added it. The check
-fails if a line of the list is no longer true, or if the list lacks something.
+fails if a line of the list is no longer true, or if a line is missing.
 
     check_abi.py            compares the list with the header, and with lib/libribjasper.so.0 if it exists
     check_abi.py --write    adds missing lines to the list; it never removes a line"""
@@ -29,13 +29,13 @@ ALIAS = re.compile(r"^#define (ribjasper_\w+) (ribjasper_\w+)\s*$", re.M)
 FIELD = re.compile(r"(\w+)(?:\[\w+\])?;")
 CALL = re.compile(r"\b(ribjasper_\w+)\(")
 NUMBER = re.compile(r"^#define (RIBJASPER_[A-Z0-9_]+) (?:\(?-?\d|0x)", re.M)
-# The version's own numbers change with each version.
-PASSED_OVER = {"RIBJASPER_VERSION", "RIBJASPER_VERSION_MAJOR", "RIBJASPER_VERSION_MINOR", "RIBJASPER_VERSION_PATCH"}
+# The numbers of the version change with each version.
+IGNORED = {"RIBJASPER_VERSION", "RIBJASPER_VERSION_MAJOR", "RIBJASPER_VERSION_MINOR", "RIBJASPER_VERSION_PATCH"}
 
 
-def questions(header: str) -> Iterator[str]:
-    """The lines of a C program that prints the numbers and the layout of the structs."""
-    numbers = [name for name in NUMBER.findall(header) if name not in PASSED_OVER]
+def statements(header: str) -> Iterator[str]:
+    """C statements that print the numbers of the header and the layout of its structs."""
+    numbers = [name for name in NUMBER.findall(header) if name not in IGNORED]
     for values in ENUM.findall(header):
         numbers += re.findall(r"(RIBJASPER_\w+) =", values)
     for name in numbers:
@@ -49,20 +49,20 @@ def questions(header: str) -> Iterator[str]:
                    f"sizeof((({name} *)0)->{field}));")
 
 
-def of_header() -> list[str]:
+def lines_of_header() -> list[str]:
     """The declarations of the header, as lines of the list."""
     header = COMMENT.sub("", HEADER.read_text())
     calls = sorted({f"call {name}" for name in CALL.findall(header)})
     with tempfile.TemporaryDirectory() as folder:
         source, program = Path(folder) / "abi.c", Path(folder) / "abi"
-        lines = "\n    ".join(questions(header))
+        lines = "\n    ".join(statements(header))
         source.write_text(f'#include "ribjasper.h"\n#include <stddef.h>\n#include <stdio.h>\nint main(void)\n{{\n    {lines}\n'
                           "    return 0;\n}\n")
         subprocess.run(["cc", "-I", HEADER.parent, source, "-o", program], check=True)
         return calls + subprocess.run([program], check=True, capture_output=True, text=True).stdout.splitlines()
 
 
-def of_library() -> list[str]:
+def lines_of_library() -> list[str]:
     """The name of the shared library, and its symbols with their versions."""
     dynamic = subprocess.run(["readelf", "-d", LIBRARY], check=True, capture_output=True, text=True).stdout
     found = re.search(r"SONAME.*\[(.*)\]", dynamic)
@@ -73,15 +73,15 @@ def of_library() -> list[str]:
 
 
 def main() -> int:
-    parser = argparse.ArgumentParser(description="compares the library with tools/check/abi.txt")
-    parser.add_argument("--write", action="store_true", help="adds to the list what is new")
+    parser = argparse.ArgumentParser(description="Compares the library with tools/check/abi.txt.")
+    parser.add_argument("--write", action="store_true", help="add missing lines to the list")
     write = parser.parse_args().write
     if not all(map(shutil.which, ("cc", "nm", "readelf"))):
         print("check_abi: skipped, since there is no C compiler")
         return 0
-    found = of_header()
+    found = lines_of_header()
     if LIBRARY.exists():
-        found += of_library()
+        found += lines_of_library()
     else:
         print("check_abi: skipped in part, since lib/libribjasper.so.0 is not built (make library)")
     listed = dict(line.split(": ", 1)[::-1] for line in LIST.read_text().splitlines()) if LIST.exists() else {}
@@ -96,9 +96,9 @@ def main() -> int:
         LIST.write_text("".join(f"{since}: {line}\n" for line, since in listed.items()))
         new = []
     for line in new:
-        print(f"check_abi: tools/check/abi.txt lacks: {line}", file=sys.stderr)
+        print(f"check_abi: missing in tools/check/abi.txt: {line}", file=sys.stderr)
     if not gone and not new:
-        print(f"check_abi: {len(found)} names, constants and offsets in structs are as listed")
+        print(f"check_abi: all {len(found)} names, constants and struct offsets match tools/check/abi.txt")
     return 1 if gone or new else 0
 
 

@@ -1,9 +1,9 @@
 #!/usr/bin/env python3
 """Checks the language of the documents: check_words.py [--count]
 
-Three limits hold: no sentence of README, the guide and the header has more than 35 words, no text uses a word of WORDS
-outside its exceptions, and all documents together have at most 5,000 lines. --count prints the lines and the seconds of
-reading (240 words a minute) of each document.
+There are three rules. No sentence of README, the guide and the header has more than 35 words. No document uses a phrase of WORDS,
+unless WORDS has an exception for it. All documents together have at most 5,000 lines. --count prints the number of lines and
+the reading time (at 240 words per minute) of each document.
 """
 import argparse
 import re
@@ -18,10 +18,10 @@ SHORT = ("README.md", "docs/GUIDE.md", "include/ribjasper.h")
 
 
 class Word(NamedTuple):
-    """A phrase that readers stumble over, what to write instead, and the documents that may use it."""
+    """A phrase to avoid, its replacement, and the documents that may use it."""
 
     phrase: str
-    instead: str
+    replacement: str
     exceptions: tuple[str, ...] = ()
 
 
@@ -84,13 +84,13 @@ WORDS = (
 
 
 def documents() -> list[Path]:
-    """The documents of the repository: its Markdown files, without those of other projects."""
+    """The documents of the repository: its Markdown files."""
     listed = subprocess.run(["git", "ls-files", "*.md"], cwd=TOP, capture_output=True, text=True, check=True)
     return [TOP / name for name in listed.stdout.split()]
 
 
 def prose(path: Path) -> str:
-    """The sentences of a text: without code, tables, headings and quotations; of a header, its comments."""
+    """A document without code, tables, headings and quotations, or the comments of a header."""
     text = path.read_text()
     if path.suffix == ".h":
         text = "\n\n".join(re.findall(r"/\*(.*?)\*/", text, re.DOTALL))
@@ -101,7 +101,7 @@ def prose(path: Path) -> str:
 
 
 def sentences(text: str) -> Iterator[str]:
-    """Sentences, items of lists and paragraphs."""
+    """The sentences, list items and paragraphs of a text."""
     for part in re.split(r"(?<=[.!?:;])\s+|\n\s*\n|\n\s*[-*] |\n\d+\. |\n(?= +\w+: )|\n(?= *Returns )", text):
         if words := " ".join(part.split()):
             yield words
@@ -114,26 +114,28 @@ def long_sentences(path: Path) -> Iterator[str]:
             yield f"has a sentence of {count} words: {' '.join(sentence.split()[:9])} .."
 
 
-def stumbling_words(path: Path, name: str) -> Iterator[str]:
+def avoided_phrases(path: Path, name: str) -> Iterator[str]:
     text = prose(path)
     for word in WORDS:
         if name not in word.exceptions:
             for found in re.finditer(rf"\b{word.phrase}", text, re.IGNORECASE):
-                yield f"says {found[0]!r} (better: {word.instead})"
+                yield f"says {found[0]!r} (better: {word.replacement})"
 
 
-def complaints() -> Iterator[str]:
+def errors() -> Iterator[str]:
+    """The violations of the rules, one line each."""
     total = 0
     for path in documents():
         name = str(path.relative_to(TOP))
         total += len(path.read_text().splitlines())
         if name != "CHANGELOG.md" and name != "docs/DEFINITIONS.md":
-            yield from (f"{name} {what}" for what in stumbling_words(path, name))
+            yield from (f"{name} {error}" for error in avoided_phrases(path, name))
     for name in SHORT:
-        yield from (f"{name} {what}" for what in long_sentences(TOP / name))
-    yield from (f"include/ribjasper.h {what}" for what in stumbling_words(TOP / "include" / "ribjasper.h", "include/ribjasper.h"))
+        yield from (f"{name} {error}" for error in long_sentences(TOP / name))
+    header = "include/ribjasper.h"
+    yield from (f"{header} {error}" for error in avoided_phrases(TOP / header, header))
     if total > MOST_LINES:
-        yield f"all documents have {total} lines, and {MOST_LINES} are the most"
+        yield f"all documents together have {total} lines, more than {MOST_LINES}"
 
 
 def count() -> None:
@@ -152,10 +154,10 @@ def main() -> int:
     if parser.parse_args().count:
         count()
         return 0
-    wrong = list(complaints())
-    for line in wrong:
+    found = list(errors())
+    for line in found:
         print(f"check_words: {line}", file=sys.stderr)
-    return 1 if wrong else 0
+    return 1 if found else 0
 
 
 if __name__ == "__main__":

@@ -1,5 +1,5 @@
 #!/usr/bin/env python3
-"""Runs the gate and prints what each crate took of the processor: see tools/check/gate_times.sh."""
+"""Runs the gate and prints the processor time of each crate: see tools/check/gate_times.sh."""
 import argparse
 import os
 import pathlib
@@ -16,7 +16,7 @@ Table = dict[str, dict[str, float]]
 
 
 def processes() -> dict[int, tuple[int, float]]:
-    """Each process that runs: its parent and its processor seconds."""
+    """The running processes: the parent and the processor seconds of each."""
     found = {}
     for folder in pathlib.Path("/proc").glob("[0-9]*"):
         try:
@@ -28,7 +28,7 @@ def processes() -> dict[int, tuple[int, float]]:
 
 
 def label_of(pid: int) -> tuple[str, str] | None:
-    """The crate that a process checks and what of it, where it checks one."""
+    """The crate that a process checks, and the kind of the check; None for other processes."""
     try:
         words = pathlib.Path(f"/proc/{pid}/cmdline").read_bytes().decode(errors="replace").split("\0")
         folder = os.readlink(f"/proc/{pid}/cwd")
@@ -41,16 +41,17 @@ def label_of(pid: int) -> tuple[str, str] | None:
 
 
 class Watch:
-    """A process and all that come of it, with what each took of the processor."""
+    """A process and its descendants, with the processor seconds of each."""
 
     def __init__(self, root: int) -> None:
         self.labels: dict[int, tuple[str, str] | None] = {}
         self.seconds: dict[int, float] = {}
         self.members = {root}
 
-    def look(self) -> None:
+    def update(self) -> None:
+        """Reads the times of the running processes."""
         found = processes()
-        # A child has a greater number than its parent, but where numbers start again.
+        # A child has a greater number than its parent, unless the numbers started again.
         for pid in sorted(found):
             parent, seconds = found[pid]
             if parent in self.members or pid in self.members:
@@ -60,16 +61,16 @@ class Watch:
                 self.seconds[pid] = max(seconds, self.seconds.get(pid, 0))
 
     def table(self) -> Table:
-        made: Table = {}
+        found: Table = {}
         for pid, seconds in self.seconds.items():
             crate, kind = self.labels[pid] or ("(the rest)", "proof")
-            made.setdefault(crate, dict.fromkeys(KINDS, 0.0))[kind] += seconds
-        return made
+            found.setdefault(crate, dict.fromkeys(KINDS, 0.0))[kind] += seconds
+        return found
 
 
-def lines_of(made: Table) -> Iterator[str]:
-    rows = sorted(made.items(), key=lambda it: -sum(it[1].values()))
-    rows.append(("all", {kind: sum(it[kind] for it in made.values()) for kind in KINDS}))
+def lines_of(table: Table) -> Iterator[str]:
+    rows = sorted(table.items(), key=lambda it: -sum(it[1].values()))
+    rows.append(("all", {kind: sum(it[kind] for it in table.values()) for kind in KINDS}))
     yield f"times: {'crate':20} {'seconds':>8} {'proof':>8} {'tests':>8} {'edits':>8}"
     for crate, times in rows:
         numbers = [sum(times.values()), *(times[kind] for kind in KINDS)]
@@ -79,20 +80,20 @@ def lines_of(made: Table) -> Iterator[str]:
 
 
 def keeps_proofs() -> bool:
-    """Whether the kit's gate keeps proofs between two runs, so that it has a word for one from nothing."""
-    said = subprocess.run(["rt", "help"], stdin=subprocess.DEVNULL, stdout=subprocess.PIPE, stderr=subprocess.STDOUT)
-    return b"--anew" in said.stdout
+    """Whether the kit's gate reuses proofs of earlier runs. Only then does it have the option --anew."""
+    ran = subprocess.run(["rt", "help"], stdin=subprocess.DEVNULL, stdout=subprocess.PIPE, stderr=subprocess.STDOUT)
+    return b"--anew" in ran.stdout
 
 
 def run(log: pathlib.Path, anew: bool) -> int:
-    """Runs the gate into a log, and adds the table."""
+    """Runs the gate, and writes its output and the table to a log."""
     with open(log, "w") as out:
         started = time.monotonic()
         words = ["rt", "ci", *["--anew"] * (anew and keeps_proofs())]
         gate = subprocess.Popen(words, stdin=subprocess.DEVNULL, stdout=out, stderr=subprocess.STDOUT)
         watch = Watch(gate.pid)
         while gate.poll() is None:
-            watch.look()
+            watch.update()
             time.sleep(0.5)
         took = time.monotonic() - started
         processors = len(os.sched_getaffinity(0))
@@ -105,11 +106,11 @@ def run(log: pathlib.Path, anew: bool) -> int:
 
 def main() -> int:
     parser = argparse.ArgumentParser(
-        description="Runs the gate and prints what each crate took of the processor, dearest first."
+        description="Runs the gate and prints the processor time of each crate, slowest first."
     )
     how = parser.add_mutually_exclusive_group()
-    how.add_argument("--anew", action="store_true", help="prove and try all from nothing")
-    how.add_argument("--again", action="store_true", help="run nothing, and print the table of the log")
+    how.add_argument("--anew", action="store_true", help="prove and test everything from the beginning")
+    how.add_argument("--again", action="store_true", help="only print the table of the log")
     parser.add_argument("log", nargs="?", type=pathlib.Path, default="gate.log", help="default: gate.log")
     words = parser.parse_args()
     if not words.again:

@@ -8,7 +8,7 @@ cd "$(dirname "$0")/../.." || exit 1
 work=$(mktemp -d)
 trap 'rm -rf "$work"' EXIT
 
-# blocks KINDS DOCUMENT: the text of the blocks of these kinds.
+# blocks KINDS DOCUMENT: prints the blocks of these kinds.
 blocks() { awk -v kinds="$1" '$0 ~ kinds { inside = 1; next } /^```$/ { inside = 0; next } inside' "$2"; }
 
 kinds='^```sh$' skipped=
@@ -29,7 +29,7 @@ else
     skipped="$skipped (skipped the blocks for the library: make library, cc)"
 fi
 
-# Where README's first block begins: the paths, and the folder of a first result.
+# The first block of README sets the paths and makes the folder for a first result.
 awk '/^```sh$/ { inside = 1; next } /^```$/ && inside { exit } inside' README.md >"$work/begin"
 failed=0
 for document in README.md docs/FORMATS.md docs/GUIDE.md; do
@@ -39,11 +39,11 @@ for document in README.md docs/FORMATS.md docs/GUIDE.md; do
         [ "$document" = README.md ] || cat "$work/begin"
         blocks "$kinds" "$document"
     } >"$work/commands"
-    if ! env -i HOME="$home" PATH=/usr/local/bin:/usr/bin:/bin sh -e "$work/commands" >"$work/told" 2>&1; then
-        tail -n 5 "$work/told" >&2
+    if ! env -i HOME="$home" PATH=/usr/local/bin:/usr/bin:/bin sh -e "$work/commands" >"$work/printed" 2>&1; then
+        tail -n 5 "$work/printed" >&2
         echo "guide: a command of $document fails" >&2
         failed=1
     fi
 done
-[ "$failed" = 0 ] && echo "guide: the commands of README, FORMATS and the guide do what they say$skipped"
+[ "$failed" = 0 ] && echo "guide: the commands in README, FORMATS and the guide work$skipped"
 exit "$failed"

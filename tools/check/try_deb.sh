@@ -1,7 +1,7 @@
 #!/bin/sh
-# Looks at the packages of deb/ with lintian, which may find nothing. Then installs the packages and removes them again, where
-# that is allowed (as root, with dpkg): each file that they name is there between, and gone after. Skipped elsewhere, and where a
-# package of that name is installed already.
+# Tests the packages of deb/. First lintian must find no errors and no warnings. Then, as root and with dpkg, the script installs
+# the packages, checks that all their files exist, and removes them again. It does not do this if one of the packages is already
+# installed.
 set -e
 cd "$(dirname "$0")/../.."
 ls deb/*.deb >/dev/null 2>&1 || { echo "try_deb: skipped, there are no packages (make deb)"; exit 0; }
@@ -27,5 +27,5 @@ done
 [ "$(printf '' | ribjasper convert --lead-in 0 | wc -c)" = 0 ]
 ! command -v ribjasper-desk >/dev/null || [ "$(ribjasper-desk --version)" = "ribjasper-desk $(sed 's/-dev$//' VERSION)" ]
 dpkg --purge $names >/dev/null
-[ ! -e /usr/bin/ribjasper ] || { echo "try_deb: the program is still there" >&2; exit 1; }
-echo "try_deb: the packages are installed and removed again"
+[ ! -e /usr/bin/ribjasper ] || { echo "try_deb: the program was not removed" >&2; exit 1; }
+echo "try_deb: the packages were installed and removed again"

@@ -1,7 +1,8 @@
 #!/bin/sh
-# Tries a release as a stranger does: in a fresh Debian without kit and checkout, one for each form, the files of dist/ (make dist)
-# lead to README's first result: try_release.sh [wheel] [deb] [archive]. Prints how many seconds the way took, without the
-# Debian itself, and fails if it takes two minutes. By hand, before a release: as root, with mmdebstrap and a mirror of Debian.
+# Tests a release like a new user: try_release.sh [wheel] [deb] [archive]. For each form, it makes a fresh Debian without the kit
+# and without a checkout, installs the files of dist/ (make dist), and produces the first results of README. It prints the time,
+# without that for making the Debian, and fails if the time is two minutes or more. It is run by hand before a release, as root,
+# and needs mmdebstrap and a Debian mirror.
 set -e
 cd "$(dirname "$0")/../.."
 top=$PWD
@@ -12,7 +13,8 @@ work=$(mktemp -d)
 trap 'umount "$work"/*/proc 2>/dev/null || true; rm -rf "$work"' EXIT
 failed=0
 
-# The first results of README: a publisher's disc and one picture of it, and an archivist's tables. EXAMPLES has the inputs.
+# The first results of README: a publisher's disc with one picture of it, and an archivist's tables. EXAMPLES is the folder of
+# the inputs.
 cat >"$work/first_result" <<'END'
 set -e
 mkdir /tmp/first-result
@@ -28,7 +30,7 @@ ribjasper-desk damage hello.raw
 ribjasper-desk report . -o report
 ls report
 END
-# A player on the library, if there is a C compiler.
+# A player that uses the library; this needs a C compiler.
 cat >"$work/first_player" <<'END'
 set -e
 cd /tmp/first-result
@@ -37,33 +39,33 @@ tail -c +2881 hello.raw | ./player 535
 cmp third.ppm 535.ppm
 END
 
-# try NAME PACKAGES SCRIPT: SCRIPT is run in a fresh Debian with these packages; dist/ is there as /dist.
+# try NAME PACKAGES SCRIPT: runs SCRIPT in a fresh Debian with these packages, where /dist is a copy of dist/.
 try() {
-    room=$work/$1
-    mmdebstrap --quiet --variant=minbase ${2:+--include="$2"} bookworm "$room" 2>"$work/told" ||
-        { cat "$work/told" >&2; echo "try_release: $1: there is no fresh Debian" >&2; exit 1; }
-    cp -r dist "$work/first_result" "$work/first_player" "$room/"
-    mount -t proc proc "$room/proc" 2>/dev/null || true
-    begun=$(date +%s)
-    if chroot "$room" env -i PATH=/usr/local/bin:/usr/bin:/bin:/usr/sbin:/sbin HOME=/root LC_ALL=C.UTF-8 sh -ec "$3" \
-        >"$work/told" 2>&1; then
-        seconds=$(($(date +%s) - begun))
+    root=$work/$1
+    mmdebstrap --quiet --variant=minbase ${2:+--include="$2"} bookworm "$root" 2>"$work/printed" ||
+        { cat "$work/printed" >&2; echo "try_release: $1: mmdebstrap fails" >&2; exit 1; }
+    cp -r dist "$work/first_result" "$work/first_player" "$root/"
+    mount -t proc proc "$root/proc" 2>/dev/null || true
+    began=$(date +%s)
+    if chroot "$root" env -i PATH=/usr/local/bin:/usr/bin:/bin:/usr/sbin:/sbin HOME=/root LC_ALL=C.UTF-8 sh -ec "$3" \
+        >"$work/printed" 2>&1; then
+        seconds=$(($(date +%s) - began))
         echo "try_release: $1: the first result after $seconds seconds"
         [ "$seconds" -lt 120 ] || failed=1
     else
-        tail -n 20 "$work/told" >&2
+        tail -n 20 "$work/printed" >&2
         echo "try_release: $1 fails" >&2
         failed=1
     fi
-    umount "$room/proc" 2>/dev/null || true
-    rm -rf "$room"
+    umount "$root/proc" 2>/dev/null || true
+    rm -rf "$root"
 }
 
 [ $# -gt 0 ] || set -- wheel deb archive
 for form in "$@"; do
     case $form in
         wheel)
-            # Pillow, which the extra `pictures` names, comes from Debian here: the index of Python may be out of reach.
+            # Pillow, which the extra `pictures` needs, is Debian's package here, because the Python index may be unreachable.
             try wheel python3,python3-venv,python3-pil,fonts-dejavu-core '
                 python3 -m venv --system-site-packages /root/ribjasper
                 . /root/ribjasper/bin/activate
@@ -85,7 +87,7 @@ for form in "$@"; do
                 top=$PWD
                 sh /first_result
                 EXAMPLES_OF_LIBRARY=$EXAMPLES FLAGS="-I$top/include $top/lib/libribjasper.a" sh /first_player' ;;
-        *) echo "try_release: there is no form $form" >&2; exit 2 ;;
+        *) echo "try_release: unknown form $form" >&2; exit 2 ;;
     esac
 done
 exit "$failed"

@@ -1,10 +1,11 @@
 #!/usr/bin/env python3
-"""Tries wrong bodies: try_wrong_bodies.py [--by-function] [--jobs N] [CRATE ..]
+"""Tests that the checker refuses wrong bodies: try_wrong_bodies.py [--by-function] [--jobs N] [CRATE ..]
 
 The gate tries the edits of `must-fail/`. The edits of `wrong-bodies/` belong to crates with slow proofs, or are less
 important. This script tries all of them before a release, each over a copy of the proofs that `make`, `rt check` or `rt lib`
-kept for its crate, so one edit needs seconds instead of a whole proof. The kit's command decides. An edit that is not refused
-is tried again from nothing, and so is an edit of a crate without kept proofs. The status is 0 only if every edit is refused.
+stored for its crate, so one edit needs seconds instead of a whole proof. The kit's command decides whether an edit is refused. An
+edit that is not refused is tried again without stored proofs, and so is an edit of a crate without stored proofs. The exit
+status is 0 only if every edit is refused.
 
 With --by-function the script tries only the edits with a line `function: PATH`. It proves this function and the functions
 that it calls, over the libraries that the gate or `make` left: ten to forty seconds for each edit. `make check` does this
@@ -32,25 +33,25 @@ from prove_crates import parallel_checks  # noqa: E402
 
 FOLDERS = ("must-fail", "wrong-bodies")
 FLAGS = ["--jobs", "1"]
-# The number of printed letters of a line of the checker.
+# The maximum length of a printed line of the checker.
 MOST_LETTERS = 160
 FUNCTION = re.compile(r"function: (\S+)")
-# How many functions a check was asked for, and how many of them it proved.
+# The number of functions that a check was to prove, and the number that it proved.
 COUNTS = re.compile(r"only=(\d+) proved=(\d+)")
 OPEN_GOAL = re.compile(r"(?:note: )?(\S+:\d+:\d+: (?:error|it is not proved).*)")
 
 
 def kit() -> ModuleType:
-    """The kit's command, which knows how an edit is applied and judged."""
+    """Loads the Python code of the kit's command, which applies an edit and decides whether it is refused."""
     command = shutil.which("rt")
     if command is None:
         sys.exit("try_wrong_bodies: there is no rt")
     loader = importlib.machinery.SourceFileLoader("rt", os.path.realpath(command))
     spec = importlib.util.spec_from_loader("rt", loader)
     assert spec is not None
-    made = importlib.util.module_from_spec(spec)
-    loader.exec_module(made)
-    return made
+    rt = importlib.util.module_from_spec(spec)
+    loader.exec_module(rt)
+    return rt
 
 
 def edits_of(crate: Any) -> list[str]:
@@ -58,37 +59,37 @@ def edits_of(crate: Any) -> list[str]:
 
 
 def function_of(edit: str) -> str | None:
-    """The function that an edit names, if it names one."""
+    """The function that an edit names, or None."""
     found = (FUNCTION.fullmatch(line) for line in Path(edit).read_text().splitlines())
     return next((it[1] for it in found if it), None)
 
 
-def tried(rt: ModuleType, crate: Any) -> list[str]:
-    """Tries the wrong bodies of a crate, prints what comes of each, and returns those that are not refused."""
+def try_crate(rt: ModuleType, crate: Any) -> list[str]:
+    """Tries the wrong bodies of a crate, prints the result of each, and returns those that are not refused."""
     began, edits = time.monotonic(), edits_of(crate)
     refused, failed = (rt.REFUSED, rt.AT_LIMIT), []
-    with tempfile.TemporaryDirectory(prefix="ribjasper-edits-") as room:
-        kept = os.path.join(room, "kept")
+    with tempfile.TemporaryDirectory(prefix="ribjasper-edits-") as folder:
+        proofs = os.path.join(folder, "kept")
         if (Path(crate.folder) / "out" / "incremental").is_dir():
-            shutil.copytree(Path(crate.folder) / "out" / "incremental", kept)
+            shutil.copytree(Path(crate.folder) / "out" / "incremental", proofs)
         else:
-            os.mkdir(kept)
-        is_proved = not rt.checked(crate, {}, FLAGS, kept).returncode
+            os.mkdir(proofs)
+        is_proved = not rt.checked(crate, {}, FLAGS, proofs).returncode
         for edit in edits:
-            outcome, said = rt.must_fail(crate, edit, FLAGS, kept) if is_proved else ("", "")
+            outcome, message = rt.must_fail(crate, edit, FLAGS, proofs) if is_proved else ("", "")
             if outcome not in refused:
-                outcome, said = rt.must_fail(crate, edit, FLAGS)
-            print(said, flush=True)
+                outcome, message = rt.must_fail(crate, edit, FLAGS)
+            print(message, flush=True)
             failed += [] if outcome in refused else [edit]
     print(f"{crate.name}: {len(edits) - len(failed)} of {len(edits)} refused in {time.monotonic() - began:.0f} seconds", flush=True)
     return failed
 
 
-def judged(rt: ModuleType, crate: Any, edit: str, function: str) -> tuple[bool, str]:
+def refusal(rt: ModuleType, crate: Any, edit: str, function: str) -> tuple[bool, str]:
     """Whether the checker refuses the function with the edit, and its message."""
-    texts, why = rt.read_edit(edit, crate.folder)
-    if why:
-        return False, why
+    texts, error = rt.read_edit(edit, crate.folder)
+    if error:
+        return False, error
     ran = rt.checked(crate, texts, [*FLAGS, "--only", function], None)
     lines = ran.stdout.rstrip("\n").split("\n")
     counts = COUNTS.fullmatch(lines[-1])
@@ -101,42 +102,43 @@ def judged(rt: ModuleType, crate: Any, edit: str, function: str) -> tuple[bool, 
     return False, f"its check ended with status {ran.returncode}: {lines[-1]}"
 
 
-def tried_by_function(rt: ModuleType, crate: Any, edit: str) -> bool:
+def try_function(rt: ModuleType, crate: Any, edit: str) -> bool:
     """Tries one wrong body, prints the result, and returns whether it is refused."""
     began, function = time.monotonic(), function_of(edit)
-    is_refused, said = judged(rt, crate, edit, function or "")
+    is_refused, message = refusal(rt, crate, edit, function or "")
     word, took = "refused" if is_refused else "NOT REFUSED", time.monotonic() - began
-    print(f"wrong body {crate.name}/{Path(edit).stem}: {word}: {said} ({took:.0f} seconds)", flush=True)
+    print(f"wrong body {crate.name}/{Path(edit).stem}: {word}: {message} ({took:.0f} seconds)", flush=True)
     return is_refused
 
 
 def try_all(rt: ModuleType, crates: list[Any], jobs: int) -> list[str]:
     """Tries all wrong bodies of some crates, and returns those that are not refused."""
     print(f"try_wrong_bodies: {sum(len(edits_of(it)) for it in crates)} in {len(crates)} crates", flush=True)
-    # The crates below are built first, one after another.
+    # The libraries below the crates are built first, one after another.
     if any(low.build_rlib(FLAGS, anew=False) for it in crates for low in it.below()):
-        sys.exit("try_wrong_bodies: a library that a crate stands on is not proved")
+        sys.exit("try_wrong_bodies: a library below a crate is not proved")
     with ThreadPoolExecutor(jobs) as pool:
-        return [edit for found in pool.map(lambda it: tried(rt, it), crates) for edit in found]
+        return [edit for found in pool.map(lambda it: try_crate(rt, it), crates) for edit in found]
 
 
 def try_functions(rt: ModuleType, crates: list[Any], jobs: int) -> list[str]:
     """Tries the wrong bodies of some crates that name a function, and returns those that are not refused."""
     edits = [(it, edit) for it in crates for edit in edits_of(it) if function_of(edit)]
-    lacking = {low.name for it, _ in edits for low in it.below() if not os.path.isfile(f"{low.rlib}/format")}
-    if lacking:
-        print(f"try_wrong_bodies: skipped, no library is left of {', '.join(sorted(lacking))} (make check)")
+    missing = {low.name for it, _ in edits for low in it.below() if not os.path.isfile(f"{low.rlib}/format")}
+    if missing:
+        print(f"try_wrong_bodies: skipped, missing libraries: {', '.join(sorted(missing))} (make check)")
         return []
-    print(f"try_wrong_bodies: {len(edits)} by their functions", flush=True)
+    print(f"try_wrong_bodies: {len(edits)} that name a function", flush=True)
     with ThreadPoolExecutor(jobs) as pool:
-        refused = pool.map(lambda it: tried_by_function(rt, *it), edits)
+        refused = pool.map(lambda it: try_function(rt, *it), edits)
         return [edit for (_, edit), is_refused in zip(edits, refused) if not is_refused]
 
 
 def main() -> int:
-    parser = argparse.ArgumentParser(description="Has the checker try wrong bodies, which it has to refuse.")
-    parser.add_argument("--by-function", action="store_true", help="those that name a function, and nothing but that function")
-    parser.add_argument("--jobs", type=int, default=parallel_checks(), help="how many at a time (default: as many as fit)")
+    parser = argparse.ArgumentParser(description="Tests that the checker refuses wrong bodies.")
+    parser.add_argument("--by-function", action="store_true", help="try only those that name a function, and prove only this function")
+    parser.add_argument("--jobs", type=int, default=parallel_checks(),
+                        help="the number of parallel proofs (default: as many as processors and memory allow)")
     parser.add_argument("crates", nargs="*", help="the crates whose wrong bodies are tried (default: all)")
     arguments = parser.parse_args()
     os.chdir(TOP)

@@ -1,10 +1,10 @@
-"""Reads the tables of docs/FORMATS.md, for the tools that write documents and the tests that try the statements there."""
+"""Reads the tables of docs/FORMATS.md, for the tools that write documents and for the tests of its statements."""
 import re
 from pathlib import Path
 
 FORMATS = Path(__file__).resolve().parents[2] / "docs" / "FORMATS.md"
 FORMS = ["raw", "sector", "cooked"]
-# The heads of the table of commands, and of the two tables of reasons: of the sheet and of the script.
+# The head of the table of commands, and the head of the two tables of reasons, for the sheet and for the script.
 COMMANDS, REASONS = "| Words | Inputs | Output |", "| Why | For example | What to do |"
 
 Row = list[str]
@@ -29,12 +29,12 @@ def table(text: str, head: str) -> list[Row]:
 
 
 def reasons(text: str) -> dict[str, list[Row]]:
-    """The reasons of a refused line of each text, with examples and remedies."""
+    """The reasons why a line of the sheet or the script is refused, with examples and remedies."""
     return dict(zip(("cue", "script"), rows_after(text, REASONS)))
 
 
 def bare(cell: str) -> str:
-    """A cell without the marks of code."""
+    """A cell without backticks."""
     return cell.replace("`", "")
 
 

@@ -1,4 +1,4 @@
-"""The crates of the repository and their sources, as the tools read them, line by line."""
+"""Reads the crates of the repository and their sources, line by line."""
 import re
 from collections.abc import Iterator
 from pathlib import Path
@@ -13,7 +13,7 @@ BLOCK = re.compile(r"(?:impl(?:<.*?>)? (?P<trait>.*? for )?(?P<type>\w+)|pub tra
 DEFINITION = re.compile(r"(?P<how>abbrev pub|unfoldable pub|pub record|pub data|abbrev|unfoldable|record|data) (?P<name>[^\s:({]+)")
 IMPORT = re.compile(r"(?:ghost )?(?:pub )?use Rattle\.(\S+?)\.\{(.*)\};?$")
 
-# The names that a line brings, each with the module and the name there.
+# The names that a line imports, each with its module and its name in that module.
 Names = dict[str, tuple[str, str]]
 
 
@@ -23,7 +23,7 @@ class Item(NamedTuple):
     kind: str
     name: str
     owner: str
-    # Whether it is marked `pub`, whether it belongs to a trait or to what a type has of one, and whether it is set in.
+    # Whether it is marked `pub`, whether it belongs to a trait or to an implementation of one, and whether its line is indented.
     is_public: bool
     is_of_trait: bool
     is_inner: bool
@@ -31,7 +31,7 @@ class Item(NamedTuple):
 
 
 class Definition(NamedTuple):
-    """A definition, a record or a kind of data, and its line."""
+    """A definition, a record or a data type, and its line."""
 
     name: str
     is_public: bool
@@ -50,7 +50,7 @@ def graph(top: Path = TOP) -> dict[str, list[str]]:
 
 
 def files(kind: str, crate: str = "*", top: Path = TOP) -> list[Path]:
-    """The files of a crate, or of all: `src` are of code, `specs` of definitions, `proofs` of proofs."""
+    """The files of one crate or of all crates: code (`src`), definitions (`specs`) or proofs (`proofs`)."""
     return sorted((top / "crates").glob(f"{crate}/{kind}/**/*.{'rt' if kind == 'src' else 'antt'}"))
 
 
@@ -76,7 +76,7 @@ def definitions(lines: list[str]) -> Iterator[Definition]:
 
 
 def imported(line: str) -> Names:
-    """The names that a `use` line brings from the logic."""
+    """The names that a `use` line imports from the logic."""
     found = IMPORT.match(line.strip())
     names: Names = {}
     for part in found[2].split(",") if found else []:

@@ -1,8 +1,8 @@
 #!/usr/bin/env python3
 """Writes the manual page and the completions of two shells from the tables and examples of docs/FORMATS.md.
 
-The files are share/ribjasper.1, share/ribjasper.bash and share/_ribjasper. With --check it only says whether
-they are what would be written, and whether README.md lists the same commands.
+The files are share/ribjasper.1, share/ribjasper.bash and share/_ribjasper. With --check, the script only reports whether they are
+current, and whether README.md lists the same commands.
 """
 import argparse
 import re
@@ -14,10 +14,10 @@ TOP = Path(__file__).resolve().parents[2]
 site.addsitedir(str(TOP / "tools" / "shared"))
 from formats import COMMANDS, FORMATS, FORMS, Row, bare, reasons, table  # noqa: E402
 
-# These two read no cooked stream.
+# These commands read no cooked stream.
 WITHOUT_COOKED = ["q", "text"]
 
-# What the manual page has between its title and the commands.
+# The text between the title and the commands of the manual page.
 BEGINNING = r"""
 .SH NAME
 ribjasper \- read and write the subcode of Compact Discs: graphics, texts, Q frames
@@ -38,15 +38,15 @@ scratch, merge and thin write while they read, so they work on live streams.
 """.strip().splitlines()
 
 def roff(text: str) -> str:
-    """A text for a manual page."""
+    """A text without backticks, escaped for a manual page."""
     return bare(text).replace("\\", "\\e").replace("-", "\\-")
 
 
 def words_of(row: Row) -> tuple[str, list[tuple[str, bool]]]:
-    """The name of a command and its options, each with whether it may be left out."""
+    """The name of a command, and its options with a flag: whether the option is optional."""
     name, *rest = bare(row[0]).split()
     options = re.findall(r"(\[)?(--[a-z-]+)", " ".join(rest))
-    return name, [(option, bool(free)) for free, option in options]
+    return name, [(option, bool(bracket)) for bracket, option in options]
 
 
 def examples(text: str) -> list[tuple[str, list[str]]]:
@@ -61,38 +61,38 @@ def examples(text: str) -> list[tuple[str, list[str]]]:
     return found
 
 
-def entry(tag: str, said: str) -> list[str]:
+def entry(tag: str, text: str) -> list[str]:
     """A paragraph of the manual page under its tag."""
-    return [".TP", f".B {roff(tag)}", said]
+    return [".TP", f".B {roff(tag)}", text]
 
 
 def letters(formats: str) -> list[str]:
-    """The part about the letters that represent values."""
+    """The section about the letters that represent values."""
     out = [".SH VALUES"]
     for letter, meaning, spelled in table(formats, "| Letter | Is | Spelled |"):
-        said = meaning if spelled == "the same" else f"{meaning}: {spelled}"
-        out += entry(letter, roff(said).replace("'", "\\(aq") + ".")
+        text = meaning if spelled == "the same" else f"{meaning}: {spelled}"
+        out += entry(letter, roff(text).replace("'", "\\(aq") + ".")
     return out
 
 
 def statuses(formats: str) -> list[str]:
-    """The part on the exit statuses."""
+    """The section about the exit statuses."""
     out = [".SH EXIT STATUS"]
     for status, exit_number, line in table(formats, "| What happened | Exit status | Line on standard error |"):
-        said = "nothing is written to standard error" if line == "none" else f"standard error has {roff(line)}"
-        out += entry(exit_number, f"{roff(status)}; {said}.")
+        message = "nothing is written to standard error" if line == "none" else f"standard error has {roff(line)}"
+        out += entry(exit_number, f"{roff(status)}; {message}.")
     return out
 
 
 def refusals(formats: str) -> list[str]:
-    """The parts on the reasons of a refusal, and on those of a refused line of each text."""
+    """The sections about the reasons of refusals, and about the reasons why lines of the two texts are refused."""
     out = [".SH REFUSALS", "The reason after", ".BR refused :"]
-    for reason, comes in table(formats, "| Reason after `refused` | The program prints it if |"):
-        out += entry(reason, roff(comes) + ".")
+    for reason, condition in table(formats, "| Reason after `refused` | The program prints it if |"):
+        out += entry(reason, roff(condition) + ".")
     for kind, what in (("cue", "CUE SHEET"), ("script", "PICTURE SCRIPT")):
         out += [f".SH REFUSED LINES OF {what}", "The reason after", f'.BR "refused {kind} " LINE :']
-        for why, _, remedy in reasons(formats)[kind]:
-            out += entry(why, roff(remedy) + ".")
+        for reason, _, remedy in reasons(formats)[kind]:
+            out += entry(reason, roff(remedy) + ".")
     return out
 
 
@@ -110,8 +110,8 @@ def manual(formats: str, commands: list[Row]) -> str:
     for seen, meaning, remedy in table(formats, "| You see | The reason | What to do |"):
         out += entry(seen, f"{roff(meaning)}. Remedy: {roff(remedy)}.")
     out += [".SH EXAMPLES"]
-    for said, lines in examples(formats):
-        out += [roff(said), ".PP", ".nf", ".RS", *map(roff, lines), ".RE", ".fi", ".PP"]
+    for description, lines in examples(formats):
+        out += [roff(description), ".PP", ".nf", ".RS", *map(roff, lines), ".RE", ".fi", ".PP"]
     out += [".SH LICENCE", "MIT or Apache-2.0, at your option: 2026 The Ribjasper authors."]
     out += [".SH SEE ALSO", ".BR ribjasper\\-desk (1),", ".BR ribjasper (3);"]
     out += ["docs/FORMATS.md and docs/GUIDE.md of the project describe the formats byte by byte and show how to use the commands."]
@@ -173,16 +173,16 @@ def zsh(commands: list[Row]) -> str:
         "        commands=(",
     ]
     for row in commands:
-        said = bare(row[2]).replace("'", "'\\''").replace(":", "\\:")
-        out.append(f"            '{words_of(row)[0]}:{said}'")
+        description = bare(row[2]).replace("'", "'\\''").replace(":", "\\:")
+        out.append(f"            '{words_of(row)[0]}:{description}'")
     out += ["        )", "        _describe command commands", "        return", "    fi", "    case $words[2] in"]
     for row in commands:
         name, options = words_of(row)
         out.append(f"        {name})")
         for option, _ in options:
             values = values_of(name, option)
-            then = f"compadd {' '.join(values)}" if values else ":"
-            out.append(f"            if [[ $words[CURRENT-1] == {option} ]]; then {then}; return; fi")
+            action = f"compadd {' '.join(values)}" if values else ":"
+            out.append(f"            if [[ $words[CURRENT-1] == {option} ]]; then {action}; return; fi")
         out.append(f"            compadd -- {' '.join([option for option, _ in options] + ['--'])} ;;")
     out += ["    esac", "}", '_ribjasper "$@"']
     return "\n".join(out) + "\n"
@@ -193,7 +193,7 @@ def main() -> int:
         description="Writes the manual page and the completions of two shells from the tables and examples "
         "of docs/FORMATS.md."
     )
-    parser.add_argument("--check", action="store_true", help="only say which files would change")
+    parser.add_argument("--check", action="store_true", help="only report which files are not current")
     is_check = parser.parse_args().check
     formats = FORMATS.read_text()
     commands = table(formats, COMMANDS)

@@ -10,7 +10,7 @@ import sys
 from pathlib import Path
 
 TOP = Path(__file__).resolve().parents[2]
-# A comment that begins a line, which may be left out, and the lines up to the next empty one or such comment.
+# An optional comment that begins a line, and the lines up to the next empty line or such comment.
 PARTS = re.compile(r"^(?:/\*(.*?)\*/\n)?((?:(?!/\*|\n)[^\n]*\n)*)", re.M | re.S)
 # Lines that only the compiler needs, and a word that only the compiler needs.
 GUARDS = re.compile(r'^(#if|#el|#endif|#include|#define RIBJASPER_(H$|NODISCARD)|RIBJASPER_NODISCARD$|extern "C"|\}$)')
@@ -26,10 +26,10 @@ def roff(text: str) -> str:
     return f"\\&{line}" if line.startswith((".", "'")) else line
 
 
-def said(comment: str) -> list[str]:
-    """A comment as paragraphs. Indented lines are parameters; each begins a line of its own."""
+def paragraphs(comment: str) -> list[str]:
+    """A comment as paragraphs of a manual page. Indented lines describe parameters; each description begins a new line."""
     out: list[str] = []
-    listed = False
+    in_list = False
     for line in comment.strip("\n").rstrip().splitlines():
         text = line.strip()
         if not text:
@@ -37,10 +37,10 @@ def said(comment: str) -> list[str]:
             continue
         if PARAMETER.match(line):
             out.append(".br")
-            listed = True
-        elif listed and not line.startswith("     "):
+            in_list = True
+        elif in_list and not line.startswith("     "):
             out.append(".PP")
-            listed = False
+            in_list = False
         out.append(roff(text))
     return out
 
@@ -48,10 +48,10 @@ def said(comment: str) -> list[str]:
 def entry(comment: str, code: str) -> list[str]:
     """A part of the header: its declarations and its description."""
     lines = [line.replace(FOR_COMPILERS, "") for line in code.splitlines() if not GUARDS.match(line)]
-    told = [".RS", *said(comment), ".RE"] if comment else []
+    description = [".RS", *paragraphs(comment), ".RE"] if comment else []
     if not lines:
-        return told
-    return [".PP", ".nf", "\\fB" + roff(lines[0]), *map(roff, lines[1:]), "\\fR", ".fi", *told]
+        return description
+    return [".PP", ".nf", "\\fB" + roff(lines[0]), *map(roff, lines[1:]), "\\fR", ".fi", *description]
 
 
 def page(header: str, version: str) -> str:
@@ -66,7 +66,7 @@ def page(header: str, version: str) -> str:
         ".SH SYNOPSIS",
         ".B #include <ribjasper.h>",
         ".SH DESCRIPTION",
-        *said(parts[0][0]),
+        *paragraphs(parts[0][0]),
         ".SH CALLS",
     ]
     for comment, code in parts[1:]:
@@ -104,7 +104,7 @@ def call_page(name: str, comment: str, code: str, version: str) -> str:
         *(f"\\fB{roff(line)}\\fR" for line in lines),
         ".fi",
         ".SH DESCRIPTION",
-        *said(comment),
+        *paragraphs(comment),
         ".SH SEE ALSO",
         ".BR ribjasper (3),",
         "which has the rules of all calls: threads, pointers, failures and memory.",
@@ -114,9 +114,9 @@ def call_page(name: str, comment: str, code: str, version: str) -> str:
 
 def main() -> int:
     parser = argparse.ArgumentParser(description="Writes the manual pages of the library's calls.")
-    wanted = parser.add_mutually_exclusive_group()
-    wanted.add_argument("--call", metavar="NAME", help="write the page of this call to standard output")
-    wanted.add_argument("--into", metavar="FOLDER", type=Path, help="write a page for each call into this folder")
+    what = parser.add_mutually_exclusive_group()
+    what.add_argument("--call", metavar="NAME", help="write the page of this call to standard output")
+    what.add_argument("--into", metavar="FOLDER", type=Path, help="write a page for each call into this folder")
     options = parser.parse_args()
     header = (TOP / "include" / "ribjasper.h").read_text()
     version = (TOP / "VERSION").read_text().strip()

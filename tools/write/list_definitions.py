@@ -1,11 +1,11 @@
 #!/usr/bin/env python3
-"""Writes docs/DEFINITIONS.md: the claims of the headline, and the definitions that they cite.
+"""Writes docs/DEFINITIONS.md: the claims of the headline, and the definitions that they use.
 
-A part begins with clauses of the top call `run`, with definitions or with laws. It shows each definition below these once,
-in the order of their first use; a table at the end has the definitions that only name a number. Later parts do not repeat
-them. The document has the parts of the headline. With --whole (`make definitions`) the script writes all parts, and the
-names that no part reaches, to a file that is not committed. With --check it reports whether the document is current; --count
-prints the lines of each part.
+A part begins with clauses of the top call `run`, with definitions or with laws. It shows each definition that these use once, in
+the order of first use; a table at the end has the definitions that only name a number. Later parts do not repeat them. The
+document has the parts of the headline. With --whole (`make definitions`) the script writes all parts, and the names that no part
+reaches, to a file that is not committed. --check reports whether the document is current. --count prints the number of lines of
+each part.
 """
 import argparse
 import re
@@ -44,8 +44,8 @@ HEADLINE = 3
 # The crates with definitions for the clauses of the C library, in addition to the crates of the program.
 LIBRARY = ("block_survey", "rw_mend", "mended_stream", "disc_plan", "live_player", "ribjasper_c")
 
-# The introduction of a part whose claims name something that the part does not show.
-SAID = {
+# The introductions of parts. They explain names in the claims that the part does not show.
+INTRODUCTIONS = {
     "Packs are recovered": "The clause of this part is about the command `convert`. It uses these variables:\n\n| Variable | Meaning |\n|---|---|\n"
     "| `form` | the form of the input |\n| `all` | the list of the bytes of the input |\n"
     "| `disc` | a cue sheet, a picture script, and the numbers of blocks of the lead-in and of the audio |\n"
@@ -61,8 +61,8 @@ SAID = {
     " two things: `text` has at most 64 MiB, and the grammar of cue sheets in [FORMATS](FORMATS.md) reads `text` as the cue sheet `sheet`.",
 }
 
-# What each clause of the headline states, in place of the comment above it in the code.
-STATED = {
+# The meaning of each clause of the headline. It replaces the comment above the clause in the code.
+MEANINGS = {
     "gives_back": "`gives_back`: A *damaged copy* of a stream has at most two wrong symbols in each word. If `convert` reads a damaged copy of an"
     " authored stream, it writes every pack of this stream. The clause says nothing about a call in which a read or a write fails.",
     "shows": "`shows`: Suppose that `screen` reads a damaged copy of an authored stream. If the time `at` is from the ready time to the hold time of"
@@ -79,7 +79,7 @@ SHOWN_TYPES = {"Form": "raw_subcode", "Status": "cdg_cmd", "Instr": "cdg_instruc
 
 ROMAN = "I II III IV V VI VII VIII IX".split()
 
-# How a clause is read. The signature of `run` and the variants of the named types come from the code.
+# How to read a clause. The signature of `run` and the variants of the named types come from the code.
 KEY = """
 `alloc` is the heap, and `words` is the list of the words of the command line. `first` and `second` are the two inputs; for `author`, they
 are the cue sheet and the script. `out` is the output, and `err` is the error output. The caller chooses the types `S` and `T` of the inputs
@@ -135,13 +135,13 @@ form *sector*, 2,352 bytes of audio precede each block. In the form *cooked*, th
 pictures and pixels are numbered from 0.
 """.strip()
 
-# What names of variants do not say.
+# The meanings of variants whose names are not clear.
 VARIANTS_KEY = """
 `Foreign` is a pack without graphics: symbol 0 is neither 0 nor 9. `Unknown` is a pack with an unknown instruction: symbol 0 is 9, but symbol
 1 is none of the numbers in the definition of `written_symbols` (part II).
 """.strip()
 
-# What only the whole document uses.
+# The further signs and words in the whole document.
 WHOLE_KEY = """
 The parts IV to IX use further signs and words:
 
@@ -159,7 +159,7 @@ The parts IV to IX use further signs and words:
 | so many | the number in the argument |
 """.strip()
 
-# What the words of the standard library mean: how each is used with its arguments, and its meaning.
+# The words of the standard library: how each is used with its arguments, and its meaning.
 WORDS = {
     "All": ("All P xs", "P is true for each element of the list xs"),
     "AllByRecursion": ("AllByRecursion", "a statement is true for each element of a list"),
@@ -269,7 +269,7 @@ Claim = tuple[list[str], list[str]]
 
 
 class Module:
-    """The definitions of a file of specs/, with what its names mean."""
+    """The definitions of a file of specs/, and the names that the file imports."""
 
     def __init__(self, crate: str, path: Path) -> None:
         self.crate, self.path = crate, path
@@ -292,7 +292,7 @@ class Module:
 
 
 def modules() -> dict[str, Module]:
-    """Each file of definitions of each crate, by its path in Rattle."""
+    """The files of definitions of all crates, by their Rattle paths."""
     found: dict[str, Module] = {}
     for crate in graph():
         for path in files("specs", crate):
@@ -303,7 +303,7 @@ def modules() -> dict[str, Module]:
 
 
 def clauses() -> tuple[dict[str, Claim], Names]:
-    """The clauses of `run`, each with what it states or the comment above it, and what its names mean."""
+    """The clauses of `run`, each with its meaning or the comment above it, and the imported names."""
     lines = CLAIMS.read_text().splitlines()
     names: Names = {}
     for line in lines:
@@ -311,28 +311,28 @@ def clauses() -> tuple[dict[str, Claim], Names]:
     first = next(k for k, line in enumerate(lines) if line.startswith("pub fn run<"))
     last = next(k for k in range(first, len(lines)) if lines[k] == "{")
     found: dict[str, Claim] = {}
-    held: list[str] = []
+    comment: list[str] = []
     at = first
     while at < last:
         line = lines[at]
         if line.strip().startswith("//"):
-            held.append(line.strip()[3:])
+            comment.append(line.strip()[3:])
         clause = re.match(r"\s+ensures (\w+) \{", line)
         if clause:
             end = at
             while not balanced("\n".join(lines[at : end + 1])):
                 end += 1
-            stated = [STATED[clause[1]]] if clause[1] in STATED else held
-            found[clause[1]] = (stated, [it[4:] for it in lines[at : end + 1]])
-            held, at = [], end
+            meaning = [MEANINGS[clause[1]]] if clause[1] in MEANINGS else comment
+            found[clause[1]] = (meaning, [it[4:] for it in lines[at : end + 1]])
+            comment, at = [], end
         elif not line.strip().startswith("//"):
-            held = []
+            comment = []
         at += 1
     return found, names
 
 
 def laws() -> Iterator[tuple[list[str], list[str], Names]]:
-    """The laws of run_laws in the order of its files: the sentence above each, its name and clauses, and its names."""
+    """The laws of run_laws in the order of its files: the comment of each, its lines, and the imported names."""
     for path in sorted(LAWS.glob("*.rt")):
         lines = path.read_text().splitlines()
         names: Names = {}
@@ -344,9 +344,9 @@ def laws() -> Iterator[tuple[list[str], list[str], Names]]:
             above = first
             while above > 0 and lines[above - 1].startswith("///"):
                 above -= 1
-            said = " ".join(it[3:].strip() for it in lines[above:first])
+            comment = " ".join(it[3:].strip() for it in lines[above:first])
             last = next(k for k in range(first, len(lines)) if lines[k] in ("{", "{}"))
-            yield [said.removeprefix("A law: ")], lines[first:last], names
+            yield [comment.removeprefix("A law: ")], lines[first:last], names
 
 
 def signature() -> list[str]:
@@ -388,42 +388,42 @@ def balanced(text: str) -> bool:
 
 
 def number_row(name: str, lines: list[str]) -> str | None:
-    """The row of a definition that only names a number: its name, the number and what it means."""
-    said = " ".join(line.removeprefix("--").strip() for line in lines if line.startswith("--"))
+    """The table row of a definition that only names a number: the name, the number and its meaning. None for other definitions."""
+    meaning = " ".join(line.removeprefix("--").strip() for line in lines if line.startswith("--"))
     code = [line for line in lines if not line.startswith("--")]
     value = re.fullmatch(rf"{re.escape(name)} = ([\w ()+*^-]+)", code[-1])
     if len(code) == 2 and code[0] == f"abbrev pub {name} : ℕ" and value:
-        return f"| `{name}` | `{value[1]}` | {said} |"
+        return f"| `{name}` | `{value[1]}` | {meaning} |"
     return None
 
 
-class Book:
-    """The document, and what of it was shown so far."""
+class Document:
+    """The document, and the definitions that are already shown."""
 
     def __init__(self) -> None:
         self.modules = modules()
         self.clauses, self.names = clauses()
         self.shown: set[Target] = set()
-        # The clauses that were told, and the words of std and the types of the code that were met.
-        self.told: set[str] = set()
+        # The clauses that are already shown, and the words of std and the types of the code that definitions use.
+        self.shown_clauses: set[str] = set()
         self.words: set[str] = set()
         self.types: set[str] = set()
 
     def target(self, name: str) -> Target:
-        """The definition of this name; where there are several, the first in the order of the crates."""
+        """The definition of this name. If there are several, the first one in the order of the crates."""
         for where, module in self.modules.items():
             if name in module.blocks:
                 return where, name
         sys.exit(f"tools/write/list_definitions.py: there is no definition {name}")
 
     def origin(self, where: str, name: str) -> Target:
-        """The definition that a name means, where a module exports a definition of another one."""
+        """The definition that a name means, if modules export definitions of other modules."""
         while where in self.modules and name not in self.modules[where].blocks and name in self.modules[where].imports:
             where, name = self.modules[where].imports[name]
         return where, name
 
     def cites(self, lines: list[str], names: Names, own: Module | None = None) -> list[Target]:
-        """The definitions that some lines cite, in order; words of std and types of the code are noted."""
+        """The definitions that some lines use, in order. The words of std and the types of the code are recorded."""
         cited: list[Target] = []
         for line in lines:
             if line.startswith("--"):
@@ -442,28 +442,28 @@ class Book:
         return cited
 
     def claims_of(self, root: str) -> tuple[list[Claim], list[Target]]:
-        """The claims of a root of a part, and the definitions that these claims cite."""
+        """The claims of a root of a part, and the definitions that these claims use."""
         if root == "library":
             modules = [(where, module) for where, module in self.modules.items() if module.crate in LIBRARY]
             return [], [(where, name) for where, module in modules for name in module.blocks]
         if root == "laws":
             found = list(laws())
             cited = [target for _, lines, imports in found for target in self.cites(lines, imports)]
-            return [(said, lines) for said, lines, _ in found], cited
+            return [(comment, lines) for comment, lines, _ in found], cited
         if not root.startswith("run."):
             return [], [self.target(root)]
-        names = [name for name in self.clauses if name not in self.told] if root == "run.*" else [root[4:]]
+        names = [name for name in self.clauses if name not in self.shown_clauses] if root == "run.*" else [root[4:]]
         for name in names:
             if name not in self.clauses:
                 sys.exit(f"tools/write/list_definitions.py: run has no clause {name}")
-        self.told.update(names)
+        self.shown_clauses.update(names)
         claims = [self.clauses[name] for name in names]
         return claims, [target for _, lines in claims for target in self.cites(lines, self.names)]
 
     def part(
         self, roots: list[str], later: dict[Target, str]
     ) -> tuple[list[Claim], list[Target], list[Target]]:
-        """The claims of a part, the definitions that they rest on as they are met, and those of later parts."""
+        """The claims of a part, the definitions that they use in the order of first use, and those that later parts show."""
         claims: list[Claim] = []
         waiting: list[Target] = []
         for root in roots:
@@ -489,7 +489,7 @@ class Book:
         return f"../crates/{module.crate}/specs/{module.path.relative_to(TOP / 'crates' / module.crate / 'specs')}"
 
     def parts(self, is_whole: bool) -> tuple[list[str], list[tuple[str, int, int]]]:
-        """The lines of the parts, and how many definitions and printed lines each has."""
+        """The lines of the parts, and the title and the numbers of definitions and lines of each."""
         out: list[str] = []
         counts = []
         for number, (title, _) in enumerate(PARTS if is_whole else PARTS[:HEADLINE]):
@@ -499,7 +499,7 @@ class Book:
         return out, counts
 
     def later_than(self, number: int) -> dict[Target, str]:
-        """The definitions that later parts begin with, each with the number of its part."""
+        """The definitions with which later parts begin, each with the number of its part."""
         later: dict[Target, str] = {}
         for place in range(number + 1, len(PARTS)):
             for root in PARTS[place][1]:
@@ -508,11 +508,11 @@ class Book:
         return later
 
     def printed(self, number: int) -> tuple[list[str], int]:
-        """What a part prints, and how many definitions it shows."""
+        """The lines of a part, and the number of definitions in it."""
         title, roots = PARTS[number]
         later = self.later_than(number)
         claims, order, put_off = self.part(roots, later)
-        out = [SAID[title], ""] if title in SAID else []
+        out = [INTRODUCTIONS[title], ""] if title in INTRODUCTIONS else []
         if put_off:
             where = ", ".join(f"`{target[1]}` ({later[target]})" for target in put_off)
             out += [f"This part uses definitions that other parts show. The number of the other part follows each name: {where}.", ""]
@@ -522,7 +522,7 @@ class Book:
         return out + self.shown_lines(order), len(order)
 
     def shown_lines(self, order: list[Target]) -> list[str]:
-        """Definitions as they are printed, each file under its name, and numbers in a table at the end."""
+        """The lines of definitions, grouped under the names of their files. Numbers are in a table at the end."""
         out: list[str] = []
         before, numbers = None, []
         for where, name in order:
@@ -544,7 +544,7 @@ class Book:
         return out
 
     def rest(self) -> list[str]:
-        """What no part shows, by name."""
+        """The names of the definitions that no part shows."""
         out = []
         for where, module in self.modules.items():
             names = [name for name in module.blocks if (where, name) not in self.shown]
@@ -554,7 +554,7 @@ class Book:
         return out
 
     def text(self, is_whole: bool) -> tuple[str, list[tuple[str, int, int]]]:
-        """The document, and how many definitions and printed lines each part has."""
+        """The document, and the title and the numbers of definitions and lines of each part."""
         parts, counts = self.parts(is_whole)
         out = [
             "# Definitions",
@@ -593,27 +593,26 @@ class Book:
 
 def main() -> int:
     parser = argparse.ArgumentParser(
-        description="Writes docs/DEFINITIONS.md: what a reader has to believe, the claims first and then the "
-        "definitions that they cite."
+        description="Writes docs/DEFINITIONS.md: the claims of the headline, and the definitions that they use."
     )
     how = parser.add_mutually_exclusive_group()
-    how.add_argument("--check", action="store_true", help="only say whether the document would change")
-    how.add_argument("--count", action="store_true", help="print the lines of each part")
+    how.add_argument("--check", action="store_true", help="only report whether the document is current")
+    how.add_argument("--count", action="store_true", help="print the number of lines of each part")
     how.add_argument("--whole", action="store_true", help=f"write all parts, to {WHOLE.relative_to(TOP)}")
     arguments = parser.parse_args()
-    book = Book()
-    text, counts = book.text(arguments.whole)
-    lacking = sorted(word for word in book.words if word not in WORDS and not word.startswith("◌") and word not in "[]")
+    document = Document()
+    text, counts = document.text(arguments.whole)
+    missing = sorted(word for word in document.words if word not in WORDS and not word.startswith("◌") and word not in "[]")
     if arguments.count:
-        print(counts, lacking)
+        print(counts, missing)
         return 0
     failed = False
-    if lacking:
-        print(f"tools/write/list_definitions.py: no meaning is given for {', '.join(lacking)}", file=sys.stderr)
+    if missing:
+        print(f"tools/write/list_definitions.py: WORDS has no meaning for {', '.join(missing)}", file=sys.stderr)
         failed = True
     if arguments.check:
         if DOCUMENT.read_text() != text:
-            print("tools/write/list_definitions.py: docs/DEFINITIONS.md is not what it writes", file=sys.stderr)
+            print("tools/write/list_definitions.py: docs/DEFINITIONS.md is not current", file=sys.stderr)
             failed = True
     else:
         (WHOLE if arguments.whole else DOCUMENT).write_text(text)

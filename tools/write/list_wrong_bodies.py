@@ -1,5 +1,5 @@
 #!/usr/bin/env python3
-"""Writes the list of wrong bodies in crates/*/wrong-bodies to standard output, as Markdown: list_wrong_bodies.py [TOP]
+"""Prints a Markdown list of the wrong bodies in crates/*/wrong-bodies: list_wrong_bodies.py [TOP]
 
 The first line of each edit is `# NOTICE | REFUSED`: what a user would notice, and what refuses the edit in addition to the
 proof of its crate. `tried:` before the second part means that the row or test was run on the wrong body and failed.
@@ -12,12 +12,12 @@ from typing import Iterator, NamedTuple
 
 TOP = Path(__file__).resolve().parents[2]
 LINE = re.compile(r"# (?P<notice>[^|]+) \| (?P<refused>[^|]+)")
-HEAD = """# Wrong bodies that the gate leaves out
+HEAD = """# Wrong bodies that the gate does not try
 
-A wrong body is an edit of the code that the checker must refuse, since a contract says otherwise. The gate tries the edits in
-`must-fail/`. Those in `wrong-bodies/` are tried by `tools/check/try_wrong_bodies.py`: with `--by-function` in every
-`make check` if they name their function, and all of them before a release. *The contract alone* means that no row and no
-test is known to refuse the edit. *Tried* means that the row or test was run on the wrong body and failed."""
+A wrong body is an edit of the code that breaks a contract, so the checker must refuse it. The gate tries the edits in
+`must-fail/`. `tools/check/try_wrong_bodies.py` tries those in `wrong-bodies/`: before a release all of them, and with
+`--by-function` in every `make check` those that name their function. *The contract alone* means that no row or test is known
+to refuse the edit. *Tried* means that the row or test was run on the wrong body and failed."""
 
 
 class WrongBody(NamedTuple):

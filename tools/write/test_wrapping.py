@@ -1,5 +1,5 @@
 #!/usr/bin/env python3
-"""Tests of wrap_proofs.py: where lines are broken, and that nothing but white space changes before `rattle fmt` lays out."""
+"""Tests of wrap_proofs.py: the places where lines are broken, and that only white space changes."""
 import unittest
 
 import wrap_proofs
@@ -19,14 +19,14 @@ def broken(line: str) -> list[str]:
 
 class LinesTest(unittest.TestCase):
     def lines_of(self, line: str) -> list[str]:
-        """The lines of a line that is too long, which hold what it held and fit."""
+        """Breaks a line that is too long, and checks that the lines fit and have the same letters."""
         self.assertGreater(len(line), LIMIT)
         lines = broken(line)
         self.assertEqual(letters("\n".join(lines)), letters(line))
         self.assertLessEqual(max(map(len, lines)), LIMIT)
         return lines
 
-    def test_a_line_that_fits_stays(self) -> None:
+    def test_a_line_that_fits_does_not_change(self) -> None:
         self.assertEqual(wrapped("    omega (arith, fits)", False, False), ["    omega (arith, fits)"])
 
     def test_an_outermost_operator_begins_each_line(self) -> None:
@@ -38,7 +38,7 @@ class LinesTest(unittest.TestCase):
         for line in self.lines_of("    " + CALL):
             self.assertEqual(line.count("("), line.count(")"))
 
-    def test_what_is_bound_stands_behind_its_name(self) -> None:
+    def test_a_bound_value_follows_its_name(self) -> None:
         first, *rest = self.lines_of(f"    let sum : whole ≡ parts = {SUM} in")
         self.assertEqual(first, "    let sum : whole ≡ parts =")
         self.assertTrue(rest[-1].endswith(" in"))
@@ -53,11 +53,11 @@ class LinesTest(unittest.TestCase):
         lines = self.lines_of(f'    say "{words}" {" ".join(f"(more_{number} left)" for number in range(8))}')
         self.assertIn(f'"{words}"', "\n".join(lines))
 
-    def test_a_comment_is_filled_anew(self) -> None:
+    def test_a_comment_is_reflowed(self) -> None:
         for line in self.lines_of("-- " + "a word of it " * 12):
             self.assertTrue(line.startswith("-- "))
 
-    def test_an_import_stays_unless_it_is_asked_for(self) -> None:
+    def test_an_import_is_broken_only_on_request(self) -> None:
         names = ", ".join(f"name_of_a_law_{number}" for number in range(9))
         line = f"use Rattle.crate.proofs.Laws.{{{names}}}"
         self.assertEqual(wrapped(line, False, False), [line])
@@ -65,7 +65,7 @@ class LinesTest(unittest.TestCase):
 
 
 class RoomTest(unittest.TestCase):
-    def test_what_stands_before_and_behind_takes_room(self) -> None:
+    def test_text_before_and_after_needs_room(self) -> None:
         text = "a" * (LIMIT - 10)
         self.assertTrue(Room(4, 3, 3).fits(text))
         self.assertFalse(Room(4, 4, 3).fits(text))
@@ -73,13 +73,13 @@ class RoomTest(unittest.TestCase):
 
 
 class TokensTest(unittest.TestCase):
-    def test_only_separators_of_a_broken_bracket_are_passed_over(self) -> None:
+    def test_only_separators_of_a_broken_bracket_are_ignored(self) -> None:
         self.assertTrue(wrap_proofs.is_added(",", "x", ")"))
         self.assertTrue(wrap_proofs.is_added(";", "x", "}"))
         self.assertTrue(wrap_proofs.is_added("|", "[", "x"))
         self.assertFalse(wrap_proofs.is_added(",", "x", "y"))
 
-    def test_a_changed_letter_is_seen(self) -> None:
+    def test_a_changed_letter_is_detected(self) -> None:
         self.assertEqual(letters("f (a,\n  b,)"), letters("f (a, b)"))
         self.assertNotEqual(letters("f (a, c)"), letters("f (a, b)"))
 

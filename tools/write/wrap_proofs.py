@@ -4,8 +4,8 @@
 Wraps all proof files of the named crates, or of all crates. A line is broken only at spaces, at its outermost operators
 first: after `in` and `=`, before `→`, `×`, `∙`, relations and sums, then between the arguments of a call, and last within
 brackets. `rattle fmt`, which is part of the kit, indents the lines, and lines that are still too long are broken again. With
---imports, long imports get a line for each name. A comment over 120 columns is reflowed; a line that ends with a comment
-does not change.
+--imports, long imports get a line for each name. A comment over 120 columns is reflowed. A line that ends with a comment does
+not change.
 
 A wrapped file must have the same tokens, and the same letters in comments, as before. If `rattle fmt` breaks a bracket, it
 adds a `,` or `;` before the closing bracket, or a `|` after `[`; these do not count. If a file has another difference, or
@@ -38,13 +38,13 @@ IMPORT = re.compile(r"\s*(pub )?(open \S+ )?use ")
 COMMENT = re.compile(r"( *-- ?)(.*)")
 # `rattle fmt` leaves the bracket that a broken tuple opens with at the end of the line before.
 LEFT_OPEN = re.compile(r"( in)?( record)? [({\[]$")
-# What begins on the line of a `=` or of a function's binders, although it is broken itself.
+# A text that begins on the line of a `=` or of a function's binders, even if it is broken.
 BEGINS_THERE = re.compile(r"(λ [^.]*\. )?(record (\S+ )?\{|omega \(|\()")
 SEPARATORS_OF_FMT = re.compile(r"[,;](?=[)}])|(?<=\[)\|")
 
 
 class Break(NamedTuple):
-    """Operators that lines are broken before (or behind), at each of them or only where a line is full."""
+    """Operators before which (or after which) lines are broken: at each of them, or only when a line is full."""
 
     operators: set[str]
     behind: bool = False
@@ -94,7 +94,7 @@ class Room(NamedTuple):
         return self.indent + self.before + len(text) + self.behind <= LIMIT
 
     def head(self) -> "Room":
-        """The room of a first part, behind which a line is broken."""
+        """The room of a first part, after which the line is broken."""
         return self._replace(behind=0)
 
     def below(self, deeper: int = 0) -> "Room":
@@ -102,7 +102,7 @@ class Room(NamedTuple):
         return self._replace(indent=self.indent + deeper, before=0)
 
     def following(self, line: str, first: bool) -> "Room":
-        """The room of a text that follows on a line."""
+        """The room of a text that continues a line."""
         return self._replace(before=len(line) + 1 + (self.before if first else 0))
 
 
@@ -110,20 +110,20 @@ Token = tuple[str, str]
 
 
 class Before(NamedTuple):
-    """What a file held before it was wrapped: its text, and the kind and text of each token."""
+    """A file before it is wrapped: its text, and the kind and text of each token."""
 
     text: str
     tokens: list[Token]
 
 
-class PutBack(NamedTuple):
+class Restored(NamedTuple):
     """A file that is restored, with the reason."""
 
     path: Path
     reason: str
 
 
-# The text of a line, by brackets and strings.
+# Functions for the brackets and strings in a text.
 
 
 def unquoted(text: str) -> str:
@@ -146,12 +146,12 @@ def cut(text: str, separator: str) -> list[str]:
 
 
 def outer_words(text: str) -> list[str]:
-    """The words of a text; a bracket with all that it holds belongs to one word."""
+    """The words of a text; a bracket and its contents belong to one word."""
     return [word for word in cut(text, " ") if word]
 
 
 def longest_bracket(text: str) -> tuple[int, int]:
-    """Where the longest outermost bracket opens and closes: at the end of the text what is not there."""
+    """The places where the longest outermost bracket opens and closes; a missing place is the end of the text."""
     found, open_ones = [], []
     for mark in BRACKET.finditer(unquoted(text)):
         if mark["opens"]:
@@ -166,14 +166,14 @@ def longest_bracket(text: str) -> tuple[int, int]:
 
 
 def segments(words: list[str], at: Break, limit: int) -> list[str]:
-    """Words joined to segments, which a break among the first `limit` words parts."""
+    """Words joined to segments, which are separated by the breaks among the first `limit` words."""
     places = (number + at.behind for number, word in enumerate(words[:limit]) if word in at.operators)
     begins = [0, *(it for it in places if 0 < it < len(words)), len(words)]
     return [" ".join(words[begin:end]) for begin, end in pairwise(begins)]
 
 
 def arguments(words: list[str]) -> list[str]:
-    """The words of a call, each with those that stay on its line."""
+    """The words of a call, each joined with the words that stay on its line."""
     out: list[str] = []
     left = iter(words)
     for word in left:
@@ -187,11 +187,11 @@ def arguments(words: list[str]) -> list[str]:
     return out
 
 
-# The lines of a text, without their indentation.
+# Functions that break a text into lines without indentation.
 
 
 def lay(text: str, room: Room) -> list[str]:
-    """The lines of a text, broken at its outermost operators first."""
+    """Breaks a text into lines, at its outermost operators first."""
     if room.fits(text):
         return [text]
     words = outer_words(text)
@@ -205,7 +205,7 @@ def lay(text: str, room: Room) -> list[str]:
 
 
 def stacked(parts: list[str], room: Room) -> list[str]:
-    """The lines of parts that begin a line each."""
+    """The lines of parts, each of which begins a new line."""
     first, *between = parts[:-1]
     out = lay(first, room.head())
     for part in between:
@@ -214,7 +214,7 @@ def stacked(parts: list[str], room: Room) -> list[str]:
 
 
 def filled(parts: list[str], room: Room, last_alone: bool = False) -> list[str]:
-    """The lines of parts, each with as many as it can take; the last part may have to begin a line."""
+    """The lines of parts, with as many parts on each line as fit. With `last_alone`, the last part begins a new line."""
     lines: list[str] = []
     for part in parts[:-1]:
         lines = with_part(lines, part, room.head())
@@ -222,7 +222,7 @@ def filled(parts: list[str], room: Room, last_alone: bool = False) -> list[str]:
 
 
 def with_part(lines: list[str], part: str, room: Room, alone: bool = False) -> list[str]:
-    """Lines with one more part: on the last of them where it has room or can begin there, and else below."""
+    """Lines with one more part: on the last line if it fits or can begin there, and otherwise on a new line."""
     if not lines:
         return lay(part, room)
     *done, line = lines
@@ -239,7 +239,7 @@ def with_part(lines: list[str], part: str, room: Room, alone: bool = False) -> l
 
 
 def at_equals(words: list[str], room: Room) -> list[str]:
-    """The lines of a text that is broken behind its `=` or `↦`; none where nothing follows it."""
+    """The lines of a text that is broken after its `=` or `↦`; none if the text has no such sign or ends with it."""
     mark = next((it for it in ("=", "↦") if it in words), None)
     end = words.index(mark) + 1 if mark else len(words)
     if end == len(words) or "λ" in words[:end]:
@@ -266,7 +266,7 @@ def at_operators(words: list[str], room: Room) -> list[str]:
 
 
 def at_function(words: list[str], room: Room) -> list[str]:
-    """The lines of a text that ends with a function, broken behind its binders; none without any."""
+    """The lines of a text that ends with a function, broken after its binders; none without a function."""
     if "λ" not in words:
         return []
     begin = words.index("λ")
@@ -330,11 +330,11 @@ def items_of(bracket: str, inner: str) -> list[str]:
     return [it + separator for it in items if it] if is_list else []
 
 
-# The lines of a file.
+# Functions that break the lines of a file.
 
 
 def wrapped(line: str, goes_on: bool, imports: bool) -> list[str]:
-    """The lines that a line of a proof is broken into; what cannot be broken stays."""
+    """Breaks a line of a proof into several lines, if this is possible."""
     if len(line) <= LIMIT:
         return [line]
     if IMPORT.match(line):
@@ -349,13 +349,13 @@ def wrapped(line: str, goes_on: bool, imports: bool) -> list[str]:
     found = LEFT_OPEN.search(body)
     left_open = found[0] if found else ""
     first, *rest = lay(body.removesuffix(left_open), Room(indent, 0, len(left_open), goes_on))
-    # Any column right of the block's does, for `rattle fmt` sets it.
+    # The columns need not be right, because `rattle fmt` indents the lines.
     lines = [" " * indent + first, *(" " * (indent + DEEPER) + it for it in rest)]
     return [*lines[:-1], lines[-1] + left_open]
 
 
 def names_apart(line: str) -> list[str]:
-    """The lines of an import with a line for each of its names."""
+    """An import with a separate line for each of its names."""
     head, brace, rest = line.partition("{")
     names, closing, after = rest.rpartition("}")
     if not brace or not closing:
@@ -371,7 +371,7 @@ def comment_lines(begin: str, text: str) -> list[str]:
 
 
 def break_lines(path: Path, imports: bool) -> bool:
-    """Breaks each long line of a file once; whether there was anything to break."""
+    """Breaks each long line of a file once. Returns whether the file has changed."""
     text = path.read_text()
     lines = text.split("\n")
     nexts = [*(line.lstrip().startswith("→") for line in lines[1:]), False]
@@ -382,46 +382,46 @@ def break_lines(path: Path, imports: bool) -> bool:
     return True
 
 
-# Calls of `rattle fmt`, and its messages about a file.
+# Functions that call `rattle fmt`, or compare files as it does.
 
 
 def find_rattle() -> Path:
-    """The program `rattle` of the kit that `rt` belongs to."""
+    """The program `rattle` of the kit, which is next to `rt`."""
     rt = shutil.which("rt")
     rattle = Path(rt).resolve().parent / "rattle" if rt else None
     if rattle is None or not rattle.is_file():
-        sys.exit("wrap_proofs: there is no rt with a rattle beside it")
+        sys.exit("wrap_proofs: there is no rt, or no rattle in its folder")
     return rattle
 
 
 def refused(rattle: Path, paths: list[Path]) -> list[Path]:
-    """Lets `rattle fmt` indent files; those that it refuses."""
+    """Indents files with `rattle fmt`. Returns the files that it refuses."""
     if not paths or subprocess.run([rattle, "fmt", "--write", *paths], capture_output=True).returncode == 0:
         return []
     return paths if len(paths) == 1 else [it for path in paths for it in refused(rattle, [path])]
 
 
 def is_added(text: str, last: str, following: str) -> bool:
-    """Whether a token between two others is a separator as `rattle fmt` adds it."""
+    """Whether a token between two others is a separator that `rattle fmt` may have added."""
     return text in (",", ";") and following in (")", "}") or text == "|" and last == "["
 
 
 def tokens(rattle: Path, path: Path) -> list[Token]:
-    """The tokens of a file without the separators that `rattle fmt` adds; none where a text is no token."""
+    """The tokens of a file, without the separators that `rattle fmt` adds; none if the file has an unknown token."""
     ran = subprocess.run([rattle, "fmt", "--tokens", path], capture_output=True, text=True)
     rows = (line.split(" ", 4) for line in ran.stdout.split("\n") if line and not line.startswith("file "))
     found = [(kind, json.loads(text)) for _, _, _, kind, text in rows]
     texts = ["", *(text for _, text in found), ""]
     added = (is_added(*three) for three in zip(texts[1:], texts, texts[2:]))
-    return [token for token, passed_over in zip(found, added) if not passed_over]
+    return [token for token, is_added_token in zip(found, added) if not is_added_token]
 
 
 def letters(text: str) -> str:
-    """All that a file has, comments too, but white space, their dashes and what `rattle fmt` adds."""
+    """The letters of a file and its comments, without white space, comment dashes and the separators that `rattle fmt` adds."""
     return SEPARATORS_OF_FMT.sub("", re.sub(r"\s+|--", "", text))
 
 
-# The files of crates.
+# Functions that wrap the files of crates.
 
 
 def proofs(crate: str) -> list[Path]:
@@ -434,7 +434,7 @@ def is_long(path: Path) -> bool:
 
 
 def wrap(rattle: Path, paths: list[Path], imports: bool) -> list[Path]:
-    """Breaks and indents the lines of files until none changes; the files that `rattle fmt` refuses."""
+    """Breaks and indents the lines of files until none changes. Returns the files that `rattle fmt` refuses."""
     bad: list[Path] = []
     for _ in range(ROUNDS):
         paths = [path for path in paths if path not in bad and break_lines(path, imports)]
@@ -453,40 +453,40 @@ def reason_against(rattle: Path, path: Path, before: Before, is_refused: bool) -
     return "has other comments" if letters(path.read_text()) != letters(before.text) else ""
 
 
-def wrap_crate(rattle: Path, crate: str, imports: bool) -> tuple[int, list[PutBack]]:
+def wrap_crate(rattle: Path, crate: str, imports: bool) -> tuple[int, list[Restored]]:
     """Wraps the proofs of a crate. Returns the number of wrapped files, and the restored files."""
-    held = {path: Before(path.read_text(), tokens(rattle, path)) for path in proofs(crate) if is_long(path)}
-    bad = wrap(rattle, list(held), imports)
-    count, put_back = 0, []
-    for path, before in held.items():
+    files = {path: Before(path.read_text(), tokens(rattle, path)) for path in proofs(crate) if is_long(path)}
+    bad = wrap(rattle, list(files), imports)
+    count, restored = 0, []
+    for path, before in files.items():
         if path.read_text() == before.text:
             continue
         reason = reason_against(rattle, path, before, path in bad)
         if reason:
             path.write_text(before.text)
-            put_back.append(PutBack(path, reason))
+            restored.append(Restored(path, reason))
         else:
             count += 1
-    return count, put_back
+    return count, restored
 
 
 def main() -> int:
     """Wraps the named crates. Prints the number of changed files, and the restored files."""
     parser = argparse.ArgumentParser(description="Wraps the lines of proofs over 110 columns.")
-    parser.add_argument("crates", nargs="*", metavar="CRATE", help="a crate that is wrapped (none: all)")
-    parser.add_argument("--imports", action="store_true", help="also give each name of a long import a line")
-    words = parser.parse_args()
+    parser.add_argument("crates", nargs="*", metavar="CRATE", help="a crate to wrap (default: all)")
+    parser.add_argument("--imports", action="store_true", help="also break long imports, with a line for each name")
+    arguments = parser.parse_args()
     present = sorted(path.name for path in (TOP / "crates").iterdir())
-    for crate in words.crates:
+    for crate in arguments.crates:
         if crate not in present:
             parser.error(f"there is no crate {crate}")
     rattle = find_rattle()
-    done = [wrap_crate(rattle, crate, words.imports) for crate in words.crates or present]
-    put_back = [it for _, found in done for it in found]
-    for path, reason in put_back:
-        print(f"wrap_proofs: {path.relative_to(TOP)}, wrapped, {reason}: it is put back", file=sys.stderr)
-    print(f"wrap_proofs: {sum(count for count, _ in done)} files are wrapped, {len(put_back)} are put back")
-    return 1 if put_back else 0
+    done = [wrap_crate(rattle, crate, arguments.imports) for crate in arguments.crates or present]
+    restored = [it for _, found in done for it in found]
+    for path, reason in restored:
+        print(f"wrap_proofs: {path.relative_to(TOP)} is restored, because the wrapped file {reason}", file=sys.stderr)
+    print(f"wrap_proofs: {sum(count for count, _ in done)} files are wrapped, {len(restored)} are restored")
+    return 1 if restored else 0
 
 
 if __name__ == "__main__":
