@@ -1,9 +1,9 @@
 #!/usr/bin/env python3
 """Prints the times of slow commands of the desk: `report` for a hundred dumps, `lyrics` for a song of four minutes,
 `film` for forty seconds of it, and `picture` for a photo. One column is the processor time of the desk and of all
-processes that it starts (ffmpeg too), the other is the elapsed time, both in seconds. Each time is the minimum of RUNS
-runs (three, or the environment variable). --desk measures another desk, for example that of another checkout. --keep
-keeps the files that the commands write in a folder, so that they can be compared."""
+processes that it starts, for example ffmpeg; the other is the elapsed time, both in seconds. Each time is the minimum of
+RUNS runs (the environment variable, or three). --desk measures another desk, for example that of another checkout.
+--keep stores the files that the commands write in a folder, so that they can be compared."""
 from __future__ import annotations
 
 import argparse
@@ -36,10 +36,10 @@ class Took(NamedTuple):
 
 
 class Row(NamedTuple):
-    """A measured command: its name, its input, and a function that makes its words for an output folder."""
+    """A measured command: its name, a description of its input, and its words, in which OUT is the output."""
 
     command: str
-    what: str
+    description: str
     words: list[str]
 
 
@@ -58,28 +58,28 @@ def clock(second: float) -> str:
 
 
 def photo(path: Path) -> None:
-    """A pixmap of soft colours with noise, like a photo."""
+    """Writes a pixmap of soft colours with noise, like a photo."""
     wide, high = PHOTO
     chance, grain = random.Random(2), int.from_bytes(bytes([15]) * 3 * wide, "big")
-    bends = [(chance.uniform(1, 9), chance.uniform(1, 9), chance.uniform(0, 6)) for _ in range(3)]
+    waves = [(chance.uniform(1, 9), chance.uniform(1, 9), chance.uniform(0, 6)) for _ in range(3)]
     with open(path, "wb") as file:
         file.write(b"P6\n%d %d\n255\n" % PHOTO)
         for y in range(high):
             if y % 8 == 0:
-                soft = bytes(int(120 + 110 * math.sin(a * x / wide + b * y / high + c)) for x in range(wide) for a, b, c in bends)
+                soft = bytes(int(120 + 110 * math.sin(a * x / wide + b * y / high + c)) for x in range(wide) for a, b, c in waves)
             noise = chance.getrandbits(24 * wide) & grain
             file.write((int.from_bytes(soft, "big") + noise).to_bytes(3 * wide, "big"))
 
 
 def program(words: list[str], out: Path) -> Path:
-    """The file with the output of the program."""
+    """Runs the program, and writes its output to a file."""
     with open(out, "wb") as file:
         subprocess.run([PROGRAM, *words], stdin=subprocess.DEVNULL, stdout=file, check=True)
     return out
 
 
 def dumps(work: Path) -> Path:
-    """A hundred dumps of a megabyte, all scratched except the first."""
+    """Makes a hundred dumps of a megabyte, all scratched except the first."""
     folder, script = work / "dumps", work / "pictures"
     folder.mkdir()
     script.write_bytes(subprocess.run([PROGRAM, "gen", "--seed", "1", "--pictures", "12"], capture_output=True, check=True).stdout)
@@ -90,7 +90,7 @@ def dumps(work: Path) -> Path:
 
 
 def rows(work: Path, desk: Callable[..., list[str]]) -> list[Row]:
-    """The measured commands, after their inputs are made."""
+    """Makes the inputs of the measured commands, and returns the commands."""
     (work / "sheet").write_text(SHEET)
     (work / "song.lrc").write_text(lyrics())
     photo(work / "photo.ppm")
@@ -105,40 +105,41 @@ def rows(work: Path, desk: Callable[..., list[str]]) -> list[Row]:
         Row("picture", "a photo of 1,600 by 1,200", desk("picture", "photo.ppm", "-o", "OUT.script")),
     ]
     if shutil.which("ffmpeg"):
-        found.insert(2, Row("film", f"{FILMED} seconds of it", desk("film", "part.raw", "-o", "OUT.mp4")))
+        found.insert(2, Row("film", f"{FILMED} seconds of the song", desk("film", "part.raw", "-o", "OUT.mp4")))
     return found
 
 
 def run(words: list[str], work: Path) -> Took:
+    """Runs a command and measures it."""
     began = time.monotonic()
     ran = subprocess.Popen(words, cwd=work, stdin=subprocess.DEVNULL, stdout=subprocess.DEVNULL, stderr=subprocess.PIPE)
     assert ran.stderr is not None
-    said = ran.stderr.read().decode(errors="replace")
+    message = ran.stderr.read().decode(errors="replace")
     _, status, used = os.wait4(ran.pid, 0)
     ran.returncode = os.waitstatus_to_exitcode(status)
     if ran.returncode:
-        raise ValueError(f"ends with {ran.returncode}: {said.strip()}")
+        raise ValueError(f"ends with {ran.returncode}: {message.strip()}")
     return Took(used.ru_utime + used.ru_stime, time.monotonic() - began)
 
 
-def measured(row: Row, work: Path, kept: Path | None) -> str:
-    """A line of the table."""
+def measured(row: Row, work: Path, keep: Path | None) -> str:
+    """Runs a command RUNS times, and returns its line of the table."""
     took = []
     for number in range(RUNS):
         name = next(word for word in row.words if word.startswith("OUT"))
         out = work / f"{row.command}{number}{Path(name).suffix}"
         took.append(run([word.replace(name, out.name) for word in row.words], work))
-    if kept and out.is_file():
-        kept.mkdir(exist_ok=True)
-        shutil.copy(out, kept / f"{row.command}{out.suffix}")
-    return f"| `{row.command}` | {row.what} | {min(took).processor:.1f} | {min(it.clock for it in took):.1f} |"
+    if keep and out.is_file():
+        keep.mkdir(exist_ok=True)
+        shutil.copy(out, keep / f"{row.command}{out.suffix}")
+    return f"| `{row.command}` | {row.description} | {min(took).processor:.1f} | {min(it.clock for it in took):.1f} |"
 
 
 def main() -> int:
-    parser = argparse.ArgumentParser(description="Prints what users wait for at the desk.")
-    parser.add_argument("--desk", type=Path, default=TOP / "desk" / "ribjasper-desk", help="the desk that is measured")
-    parser.add_argument("--keep", type=Path, metavar="FOLDER", help="where one of each output is kept")
-    words = parser.parse_args()
+    parser = argparse.ArgumentParser(description="Prints the times of slow commands of the desk.")
+    parser.add_argument("--desk", type=Path, default=TOP / "desk" / "ribjasper-desk", help="the desk to measure")
+    parser.add_argument("--keep", type=Path, metavar="FOLDER", help="store one output of each command here")
+    arguments = parser.parse_args()
     python = "/usr/bin/python3" if os.access("/usr/bin/python3", os.X_OK) else sys.executable
     if not PROGRAM.exists() or not LIBRARY.exists():
         print("desk: skipped, there is no bin/ribjasper or no lib/libribjasper.so.0 (make, make library)")
@@ -146,21 +147,21 @@ def main() -> int:
     if subprocess.run([python, "-c", "import PIL"], stderr=subprocess.DEVNULL).returncode:
         print("desk: skipped, there is no Pillow (python3-pil)")
         return 0
-    # As for a user, Python keeps its compiled files.
+    # Python stores its compiled files, as it does for a user.
     os.environ.pop("PYTHONDONTWRITEBYTECODE", None)
     os.environ.setdefault("RIBJASPER_LIBRARY", str(LIBRARY))
     os.environ.setdefault("RIBJASPER_PROGRAM", str(PROGRAM))
     failed = False
     with tempfile.TemporaryDirectory() as folder:
-        found = rows(Path(folder), lambda *those: [python, str(words.desk.resolve()), *those])
-        at = f"load {os.getloadavg()[0]:.1f}, {os.cpu_count()} processors"
-        print(f"Seconds of the desk and what it starts, the least of {RUNS} runs; {at}.\n")
-        print("| Command | Input | Processor | Clock |\n|---|---|---|---|", flush=True)
+        found = rows(Path(folder), lambda *words: [python, str(arguments.desk.resolve()), *words])
+        machine = f"load {os.getloadavg()[0]:.1f}, {os.cpu_count()} processors"
+        print(f"Seconds of the desk and of the processes that it starts, the minimum of {RUNS} runs; {machine}.\n")
+        print("| Command | Input | Processor time | Elapsed time |\n|---|---|---|---|", flush=True)
         for row in found:
             try:
-                print(measured(row, Path(folder), words.keep), flush=True)
-            except ValueError as why:
-                print(f"{row.command}: {why}", file=sys.stderr)
+                print(measured(row, Path(folder), arguments.keep), flush=True)
+            except ValueError as error:
+                print(f"{row.command}: {error}", file=sys.stderr)
                 failed = True
     return 1 if failed else 0
 

@@ -1,6 +1,6 @@
 //! A plain program in Rust that does the work of some commands, so that our times can be compared: reference COMMAND <in >out.
 //!
-//! It is short and fast, as one would write it without proofs. `convert`, `check`, `screen TIME`, `state TIME`, `q`, `planar`,
+//! The program is short and fast, as people write programs without proofs. `convert`, `check`, `screen TIME`, `state TIME`, `q`, `planar`,
 //! `raw`, `scratch SEED` and `save` read a stream of raw blocks without lead-in. The other commands are `text LEAD-IN`, `thin`,
 //! `author LENGTH -- SHEET SCRIPT`, `press LENGTH -- SHEET FILE`, `merge -- FIRST SECOND`, `resume TIME -- SAVE REST` and
 //! `trial SEED PICTURES`. It reads only the Q frames of a program, and only the tracks and index lines of sheets, and its
@@ -18,16 +18,16 @@ const PLACES: [usize; WORD] = [
 
 type Word = [u8; WORD];
 type Input = BufReader<Stdin>;
-/// Standard output as a file, because `Stdout` searches line feeds in the output and splits writes there.
+/// Standard output as a file. `Stdout` would search the output for line feeds and split writes there.
 type Output = BufWriter<File>;
 
-/// The field of 64 elements, by logarithms.
+/// The field of 64 elements, with tables of logarithms.
 struct Field {
     power: [u8; 126],
     log: [u8; 64],
     /// The four syndromes of a symbol at a place, six bits each.
     sums: [[u32; 64]; WORD],
-    /// The two places, counted from the end, whose powers have this sum and this product; 255 if there are none.
+    /// The two places, counted from the end, whose powers have a on_word sum and product; 255 if there are none.
     pairs: Vec<[u8; 2]>,
 }
 
@@ -120,7 +120,7 @@ impl Field {
     fn fill(&self, word: &Word, places: &[usize]) -> Option<Word> {
         let sums = self.sums_of(word);
         let n = places.len();
-        // One row for each of the n first syndromes: the powers of the places, and the syndrome.
+        // One row for each of the first n syndromes: the powers of the places, and the syndrome.
         let mut rows = [[0u8; 5]; 4];
         for (j, row) in rows.iter_mut().enumerate().take(n) {
             for (k, &place) in places.iter().enumerate() {
@@ -188,18 +188,18 @@ struct Window {
     symbols: [u8; 168 + BLOCK],
     /// The number of slots before (at most seven), and the number of idle blocks in a row.
     before: usize,
-    quiet: usize,
+    idle_blocks: usize,
 }
 
 impl Window {
     fn new() -> Window {
-        Window { symbols: [0; 168 + BLOCK], before: 0, quiet: 0 }
+        Window { symbols: [0; 168 + BLOCK], before: 0, idle_blocks: 0 }
     }
 
     fn take(&mut self, block: &[u8]) {
-        // Most blocks of a disc are idle: if the slots before are idle too, so are the words, and nothing has to move.
-        self.quiet = if block.iter().fold(0, |all, it| all | it) & 63 == 0 { self.quiet + 1 } else { 0 };
-        if self.quiet > 3 {
+        // Most blocks of a disc are idle. If the slots before a block are idle too, its words are idle, and nothing is moved.
+        self.idle_blocks = if block.iter().fold(0, |all, it| all | it) & 63 == 0 { self.idle_blocks + 1 } else { 0 };
+        if self.idle_blocks > 3 {
             return;
         }
         self.symbols.copy_within(BLOCK.., 0);
@@ -216,7 +216,7 @@ impl Window {
     }
 
     fn is_idle(&self) -> bool {
-        self.quiet > 2
+        self.idle_blocks > 2
     }
 
     fn word(&self, slot: usize) -> Word {
@@ -227,39 +227,39 @@ impl Window {
 /// Passes each corrected word of a stream to a function, with the number of wrong symbols.
 fn for_each_word(
     input: &mut impl Read,
-    given: impl FnMut(&Word, Option<usize>) -> io::Result<()>,
+    on_word: impl FnMut(&Word, Option<usize>) -> io::Result<()>,
 ) -> io::Result<()> {
-    for_each_word_and_block(input, |_| {}, given)
+    for_each_word_and_block(input, |_| {}, on_word)
 }
 
 /// Passes each block and each corrected word to a function.
 fn for_each_word_and_block(
     input: &mut impl Read,
-    seen: impl FnMut(&[u8]),
-    given: impl FnMut(&Word, Option<usize>) -> io::Result<()>,
+    on_block: impl FnMut(&[u8]),
+    on_word: impl FnMut(&Word, Option<usize>) -> io::Result<()>,
 ) -> io::Result<()> {
-    words_from(&mut Window::new(), input, seen, given)
+    words_from(&mut Window::new(), input, on_block, on_word)
 }
 
-/// The same, from a window that has read some of the stream.
+/// Like `for_each_word_and_block`, but with a window that may already contain symbols of the stream.
 fn words_from(
     window: &mut Window,
     input: &mut impl Read,
-    mut seen: impl FnMut(&[u8]),
-    mut given: impl FnMut(&Word, Option<usize>) -> io::Result<()>,
+    mut on_block: impl FnMut(&[u8]),
+    mut on_word: impl FnMut(&Word, Option<usize>) -> io::Result<()>,
 ) -> io::Result<()> {
     let (field, mut block) = (Field::new(), [0; BLOCK]);
     while read_block(input, &mut block)? {
-        seen(&block);
+        on_block(&block);
         window.take(&block);
         for slot in window.first()..4 {
             if window.is_idle() {
-                given(&[0; WORD], Some(0))?;
+                on_word(&[0; WORD], Some(0))?;
                 continue;
             }
             let mut word = window.word(slot);
             let wrong = field.correct(&mut word);
-            given(if wrong.is_some() { &word } else { &[0; WORD] }, wrong)?;
+            on_word(if wrong.is_some() { &word } else { &[0; WORD] }, wrong)?;
         }
     }
     Ok(())
@@ -294,12 +294,12 @@ fn merge(first: &str, second: &str, out: &mut Output) -> io::Result<()> {
 /// Writes a checkpoint after a stream.
 fn save(input: &mut Input, out: &mut Output) -> io::Result<()> {
     let (mut window, mut screen, mut blocks, mut bad) = (Window::new(), Screen::new(), 0u32, 0u32);
-    let given = |word: &Word, wrong: Option<usize>| {
+    let on_word = |word: &Word, wrong: Option<usize>| {
         bad += u32::from(wrong.is_none());
-        screen.obey(word);
+        screen.execute(word);
         Ok(())
     };
-    words_from(&mut window, input, |_| blocks += 1, given)?;
+    words_from(&mut window, input, |_| blocks += 1, on_word)?;
     let mut file = Vec::with_capacity(SAVED);
     file.extend(b"CDGSAVE1");
     for number in [0, 0, blocks, bad] {
@@ -341,7 +341,7 @@ fn resume(time: u32, saved: &[u8], rest: &str, out: &mut Output) -> io::Result<(
     words_from(&mut window, input, |_| {}, |word, _| {
         if left > 0 {
             left -= 1;
-            screen.obey(word);
+            screen.execute(word);
         }
         Ok(())
     })?;
@@ -352,7 +352,7 @@ fn convert(input: &mut Input, out: &mut Output) -> io::Result<()> {
     for_each_word(input, |word, _| out.write_all(word))
 }
 
-/// The check of the bytes of a Q frame.
+/// The CRC of the bytes of a Q frame.
 struct Check([u16; 256]);
 
 impl Check {
@@ -367,7 +367,7 @@ impl Check {
         (!check).to_be_bytes()
     }
 
-    /// Whether bytes end with their check.
+    /// Whether the last two bytes are the CRC of the others.
     fn is_good(&self, bytes: &[u8]) -> bool {
         let (bytes, check) = bytes.split_at(bytes.len() - 2);
         self.of(bytes) == check
@@ -382,11 +382,11 @@ fn check(input: &mut Input, out: &mut Output) -> io::Result<()> {
     let mut counts = [0u64; 8];
     let (mut blocks, mut q_good) = (0u64, 0u64);
     let table = Check::new();
-    let seen = |block: &[u8]| {
+    let on_block = |block: &[u8]| {
         blocks += 1;
         q_good += u64::from(table.is_good(&q_frame(block)));
     };
-    for_each_word_and_block(input, seen, |word, wrong| {
+    for_each_word_and_block(input, on_block, |word, wrong| {
         let known = matches!(word[1], 1 | 2 | 6 | 20 | 24 | 28 | 30 | 31 | 38);
         match wrong {
             None => counts[3] += 1,
@@ -451,17 +451,17 @@ impl Screen {
         for y in 0..216 {
             for x in 0..300 {
                 let (to_x, to_y) = ((x + across) % 300, (y + down) % 216);
-                let comes_in = (across == 6 && to_x < 6)
+                let enters = (across == 6 && to_x < 6)
                     || (across == 294 && to_x >= 294)
                     || (down == 12 && to_y < 12)
                     || (down == 204 && to_y >= 204);
                 let moved = old[300 * y + x];
-                self.memory[300 * to_y + to_x] = if comes_in { fill.unwrap_or(moved) } else { moved };
+                self.memory[300 * to_y + to_x] = if enters { fill.unwrap_or(moved) } else { moved };
             }
         }
     }
 
-    fn obey(&mut self, word: &Word) {
+    fn execute(&mut self, word: &Word) {
         let c = &word[4..20];
         match (word[0], word[1]) {
             (9, 1) => self.memory.fill(c[0] & 15),
@@ -507,7 +507,7 @@ fn screen_at(input: &mut Input, blocks: usize) -> io::Result<Screen> {
     for_each_word(input, |word, _| {
         if left > 0 {
             left -= 1;
-            screen.obey(word);
+            screen.execute(word);
         }
         Ok(())
     })?;
@@ -522,14 +522,14 @@ fn state(screen: &Screen, out: &mut Output) -> io::Result<()> {
     Ok(())
 }
 
-/// Writes the packs of a file, with zeros instead of those that change nothing.
+/// Writes the packs of a file. Packs that change nothing are replaced by zeros.
 fn thin(input: &mut Input, out: &mut Output) -> io::Result<()> {
     let (mut screen, mut pack) = (Screen::new(), [0; WORD]);
     while read_block(input, &mut pack)? {
         let word = pack.map(|symbol| symbol & 63);
         let draws = word[0] == 9 && matches!(word[1], 1 | 2 | 6 | 20 | 24 | 28 | 30 | 31 | 38);
-        let kept = !draws || changes(&mut screen, &word);
-        out.write_all(if kept { &pack } else { &[0; WORD] })?;
+        let is_kept = !draws || changes(&mut screen, &word);
+        out.write_all(if is_kept { &pack } else { &[0; WORD] })?;
     }
     Ok(())
 }
@@ -545,17 +545,17 @@ fn changes(screen: &mut Screen, word: &Word) -> bool {
         }
         let line = |line: usize| (12 * row + line) * 300 + 6 * column;
         let old: [[u8; 6]; 12] = std::array::from_fn(|j| std::array::from_fn(|i| screen.memory[line(j) + i]));
-        screen.obey(word);
+        screen.execute(word);
         return (0..12).any(|j| screen.memory[line(j)..line(j) + 6] != old[j]);
     }
     let before = screen.clone();
-    screen.obey(word);
+    screen.execute(word);
     *screen != before
 }
 
-/// The text packs of a lead-in, and the numbers of good, bad and other packs.
+/// Writes the texts of a lead-in, and the numbers of good, bad and other packs.
 fn text(input: &mut Input, out: &mut Output, lead_in: usize) -> io::Result<()> {
-    let (check, mut block, mut kept) = (Check::new(), [0; BLOCK], vec![None; 256]);
+    let (check, mut block, mut packs) = (Check::new(), [0; BLOCK], vec![None; 256]);
     let (mut good, mut bad, mut other) = (0, 0, 0);
     for _ in 0..lead_in {
         if !read_block(input, &mut block)? {
@@ -573,19 +573,19 @@ fn text(input: &mut Input, out: &mut Output, lead_in: usize) -> io::Result<()> {
                 other += 1;
             } else {
                 good += 1;
-                kept[pack[2] as usize].get_or_insert(pack);
+                packs[pack[2] as usize].get_or_insert(pack);
             }
         }
     }
-    let kept: Vec<[u8; 18]> = kept.into_iter().flatten().collect();
-    let sizes: Vec<&[u8; 18]> = kept.iter().filter(|pack| pack[0] == 0x8F).collect();
+    let packs: Vec<[u8; 18]> = packs.into_iter().flatten().collect();
+    let sizes: Vec<&[u8; 18]> = packs.iter().filter(|pack| pack[0] == 0x8F).collect();
     if let Some(first) = sizes.first() {
         let tracks = (first[6] + 1 - first[5]) as usize;
         for (name, kind) in ["title", "performer", "songwriter", "composer", "arranger", "message", "code"]
             .iter()
             .zip([0x80, 0x81, 0x82, 0x83, 0x84, 0x85, 0x8E])
         {
-            let bytes: Vec<u8> = kept.iter().filter(|pack| pack[0] == kind).flat_map(|pack| &pack[4..16]).copied().collect();
+            let bytes: Vec<u8> = packs.iter().filter(|pack| pack[0] == kind).flat_map(|pack| &pack[4..16]).copied().collect();
             let mut before = Vec::new();
             for (k, string) in bytes.split(|&byte| byte == 0).take(tracks + 1).enumerate() {
                 let string = if string == b"\t" && k > 0 { before } else { string.to_vec() };
@@ -629,33 +629,33 @@ fn q(input: &mut Input, out: &mut Output) -> io::Result<()> {
     Ok(())
 }
 
-/// The eight bits of a byte, one in each byte of a number, the highest bit first in memory.
+/// For each byte, a number whose eight bytes are the bits of the byte, the highest bit first in memory.
 fn lanes() -> [u64; 256] {
     std::array::from_fn(|byte| (0..8).fold(0, |lanes, k| lanes | (byte as u64 >> (7 - k) & 1) << (8 * k)))
 }
 
 fn planar(input: &mut Input, out: &mut Output) -> io::Result<()> {
-    let (lanes, mut block, mut turned) = (lanes(), [0; BLOCK], [0; BLOCK]);
+    let (lanes, mut block, mut output_block) = (lanes(), [0; BLOCK], [0; BLOCK]);
     while read_block(input, &mut block)? {
         for k in 0..12 {
             let bits = block[8 * k..8 * k + 8].iter().fold(0, |bits, &byte| bits << 1 | lanes[byte as usize]);
             for (channel, byte) in bits.to_le_bytes().into_iter().enumerate() {
-                turned[12 * channel + k] = byte;
+                output_block[12 * channel + k] = byte;
             }
         }
-        out.write_all(&turned)?;
+        out.write_all(&output_block)?;
     }
     Ok(())
 }
 
 fn raw(input: &mut Input, out: &mut Output) -> io::Result<()> {
-    let (lanes, mut block, mut turned) = (lanes(), [0; BLOCK], [0; BLOCK]);
+    let (lanes, mut block, mut output_block) = (lanes(), [0; BLOCK], [0; BLOCK]);
     while read_block(input, &mut block)? {
         for k in 0..12 {
             let bits = (0..8).fold(0, |bits, channel| bits << 1 | lanes[block[12 * channel + k] as usize]);
-            turned[8 * k..8 * k + 8].copy_from_slice(&bits.to_le_bytes());
+            output_block[8 * k..8 * k + 8].copy_from_slice(&bits.to_le_bytes());
         }
-        out.write_all(&turned)?;
+        out.write_all(&output_block)?;
     }
     Ok(())
 }
@@ -708,9 +708,9 @@ impl Needle {
     fn scratch(&mut self, bytes: &mut [u8]) {
         let (mut at, count) = (0, bytes.len());
         while at < count {
-            let kept = self.gap.min(count - at);
-            self.gap -= kept;
-            at += kept;
+            let clean = self.gap.min(count - at);
+            self.gap -= clean;
+            at += clean;
             let hit = if self.gap == 0 { self.left.min(count - at) } else { 0 };
             for byte in &mut bytes[at..at + hit] {
                 *byte ^= self.change;
@@ -833,7 +833,7 @@ impl Layout {
 
 /// The parity of packs.
 struct Parity {
-    /// The remainders of a symbol that two or four symbols follow, for the polynomials of the Q and P parity.
+    /// The remainders of a symbol followed by two or four symbols, for the polynomials of the Q and P parity.
     q: [u32; 64],
     p: [u32; 64],
 }
@@ -868,7 +868,7 @@ impl Parity {
     }
 }
 
-/// Writes the program blocks of a layout, which carry packs; a missing pack is idle.
+/// Writes the program blocks of a layout with their packs; a missing pack is idle.
 fn write_stream(layout: &Layout, mut pack: impl FnMut(u32) -> Option<Word>, out: &mut impl Write) -> io::Result<()> {
     let (check, lanes) = (Check::new(), lanes());
     // The symbols of a block and of the seven slots after it.
@@ -997,16 +997,16 @@ impl Canvas {
         Canvas { pixels: vec![0; WIDTH * 192], border: 0, colours: [0; 16], drawn: 0 }
     }
 
-    /// Draws the lines up to a place; pixels only from the last line that fills the whole window.
+    /// Draws the lines up to a place. Lines before the last one that fills the window draw no pixels.
     fn draw(&mut self, script: &Script, to: usize) {
         let lines = &script.lines[self.drawn..to];
         self.drawn = to;
-        let seen = lines.iter().rposition(|line| matches!(line, Line::Fill { .. })).unwrap_or(0);
+        let last_fill = lines.iter().rposition(|line| matches!(line, Line::Fill { .. })).unwrap_or(0);
         for (i, line) in lines.iter().enumerate() {
             match *line {
                 Line::Colour { number, value } => self.colours[number] = value,
                 Line::Border { colour } => self.border = colour,
-                _ if i < seen => {}
+                _ if i < last_fill => {}
                 Line::Fill { colour } => self.pixels.fill(colour),
                 Line::Rect { x, y, width, height, colour } => {
                     let (x, y) = (usize::from(x), usize::from(y));
@@ -1046,28 +1046,28 @@ impl Canvas {
     }
 }
 
-/// Independent differences from the first pixel, and for each difference those of which it is the sum.
+/// Independent differences from the first pixel, and for each difference the independent ones whose sum it is.
 struct Basis {
     members: [u8; 4],
     count: usize,
-    made: [u8; 16],
+    sums: [u8; 16],
 }
 
 impl Basis {
     fn of(pixels: &Tile) -> Basis {
-        let mut basis = Basis { members: [0; 4], count: 0, made: [255; 16] };
-        basis.made[0] = 0;
+        let mut basis = Basis { members: [0; 4], count: 0, sums: [255; 16] };
+        basis.sums[0] = 0;
         let mut last = pixels[0];
         for &pixel in pixels {
             let number = pixel ^ pixels[0];
-            if pixel == last || basis.made[number as usize] != 255 {
+            if pixel == last || basis.sums[number as usize] != 255 {
                 continue;
             }
             last = pixel;
-            let before = basis.made;
+            let before = basis.sums;
             for other in 0..16 {
                 if before[other] != 255 {
-                    basis.made[other ^ number as usize] = before[other] | 1 << basis.count;
+                    basis.sums[other ^ number as usize] = before[other] | 1 << basis.count;
                 }
             }
             basis.members[basis.count] = number;
@@ -1095,14 +1095,14 @@ impl Basis {
             word[6] = (tile / 48 + 1) as u8;
             word[7] = (tile % 48 + 1) as u8;
             for (bits, line) in word[8..20].iter_mut().zip(pixels.chunks(6)) {
-                *bits = line.iter().fold(0, |bits, &it| bits << 1 | self.made[(it ^ pixels[0]) as usize] >> j & 1);
+                *bits = line.iter().fold(0, |bits, &it| bits << 1 | self.sums[(it ^ pixels[0]) as usize] >> j & 1);
             }
             packs.push(word);
         }
     }
 }
 
-/// The fewest instructions that turn a tile into another one: whether they draw or combine, and their basis.
+/// The shortest way to turn a tile into another one: the basis, its pixels, and whether they are drawn or combined.
 fn shortest(old: &Tile, new: &Tile) -> (Basis, Tile, bool) {
     let drawn = Basis::of(new);
     if drawn.weight() > 1 {
@@ -1136,16 +1136,16 @@ impl Weights {
         self.0[tile] = (Basis::of(pixels).weight() as u32, single);
     }
 
-    /// The first of the colours that need the fewest instructions, and their number.
+    /// The first colour that needs the fewest instructions, and their number.
     fn best(&self) -> (u8, u32) {
-        let (mut whole, mut single) = (0, [0; 16]);
+        let (mut total, mut single) = (0, [0; 16]);
         for &(weight, colour) in &self.0 {
-            whole += weight;
+            total += weight;
             if let Some(colour) = colour {
                 single[colour as usize] += weight;
             }
         }
-        (0..16).map(|colour| (colour, whole - single[colour as usize])).min_by_key(|it| it.1).unwrap()
+        (0..16).map(|colour| (colour, total - single[colour as usize])).min_by_key(|it| it.1).unwrap()
     }
 }
 
@@ -1193,7 +1193,7 @@ fn change(first: bool, before: &Canvas, now: &Canvas, weights: &mut Weights, par
     settings
 }
 
-/// The changes of a script with the packs at which they begin, or the first late picture.
+/// The changes of a script, each with the pack at which it begins, or the first late picture.
 fn changes_of(script: &Script) -> Result<Vec<(u32, Vec<Word>)>, usize> {
     let (mut before, mut now) = (Canvas::new(), Canvas::new());
     let (mut weights, parity, mut start, mut changes) = (Weights::new(), Parity::new(), 0, Vec::new());
@@ -1307,7 +1307,7 @@ fn trial(seed: u64, pictures: u32, out: &mut Output) -> io::Result<()> {
     let (mut wrong, mut equal, mut slots) = ([0; 4], 0, 7);
     for_each_word(&mut stream.as_slice(), |word, corrected| {
         wrong[corrected.unwrap_or(3)] += 1;
-        screen.obey(word);
+        screen.execute(word);
         slots += 1;
         if let Some(next) = shown.next_if(|next| 4 * next.ready == slots) {
             canvas.draw(&script, next.place);

@@ -1,20 +1,21 @@
 #!/usr/bin/env python3
-"""Prints the table of bench/README.md, for each command on inputs of 40 MB: the processor time in milliseconds, of our
-program, of `cat` (the physical limit) and of a plain program; our time divided by the limit, and the plain program's
-time divided by ours; and the peak of the memory. The limit is the time of `cat` for the same number of bytes: half of
-its time per byte for each byte that is read, and half for each that is written. Each time is the user and system time
-of one process, the minimum of RUNS runs (nine, or the environment variable), which alternate with the other runs of the
-row and use the same pipes. The plain program is bench/reference.rs, unverified Rust that does the work of some
-commands. It is built if rustc is there, and its output is compared with ours.
+"""Prints the table of bench/README.md: the processor time and the maximum memory of each command on inputs of 40 MB.
 
-What bounds the time of each command:
+The table has the times of our program, of a plain program, and the limit, in milliseconds, and their ratios. The limit is
+the time that `cat` needs for the same number of bytes: half of its time per byte for each byte that our program reads, and
+half for each byte that it writes. Each time is the user and system time of one process, the minimum of RUNS runs (the
+environment variable, or nine). The runs of a row alternate and use the same kind of pipes. The plain program is
+bench/reference.rs, unverified Rust that does the work of some commands. It is built if rustc is installed, and its output
+must be equal to ours.
 
-- `convert`, `check`, `screen`, `state`, `save`, `resume`: the words, four per block. Each is gathered from 24 symbols,
-  and its sums are tested (in an authored stream nearly all blocks are idle). With a wrong symbol in each block, the
-  correction.
-- `merge`: the words of two streams. `q`: the check and the text of one line per block. `planar`, `raw`: the bits.
-- `scratch`: the copy. `thin`: the drawing.
-- `author`, `press`, `trial`: the writer of blocks, and for `author` also the plans of the pictures.
+The work that dominates the time of each command:
+
+- `convert`, `check`, `screen`, `state`, `save`, `resume`: collecting the 24 symbols of each word and testing its
+  syndromes, for four words per block (in an authored stream nearly all blocks are idle). If each block has a wrong
+  symbol: the correction.
+- `merge`: the words of two streams. `q`: the check and the text of one line per block. `planar`, `raw`: moving bits.
+- `scratch`: copying. `thin`: drawing.
+- `author`, `press`, `trial`: writing blocks, and for `author` also planning the pictures.
 - Long scripts: for 20,000 `show` lines without a change, the comparison of each picture with the previous one; for
   64 MiB of `fill` lines, the grammar.
 """
@@ -50,21 +51,21 @@ class Run(NamedTuple):
 
 
 def named(files: Sequence[str]) -> list[str]:
-    """The words that name files, if there are several; a single file is standard input."""
+    """The words that pass several files by name. A single file is standard input."""
     return ["--", *files] if len(files) > 1 else []
 
 
 def through_pipes(words: list[str], files: Sequence[str]) -> Run:
-    """Runs a command from a pipe to a pipe; it reads two files by name."""
+    """Runs a command from a pipe to a pipe. It reads two inputs by name."""
     feed = None
     if len(files) < 2:
         feed = subprocess.Popen(["cat", files[0] if files else os.devnull], stdout=subprocess.PIPE)
-    given = feed.stdout if feed else subprocess.DEVNULL
-    work = subprocess.Popen([*words, *named(files)], stdin=given, stdout=subprocess.PIPE, stderr=subprocess.DEVNULL)
+    source = feed.stdout if feed else subprocess.DEVNULL
+    work = subprocess.Popen([*words, *named(files)], stdin=source, stdout=subprocess.PIPE, stderr=subprocess.DEVNULL)
     sink = subprocess.Popen(["wc", "-c"], stdin=work.stdout, stdout=subprocess.PIPE)
-    for handed_on in (work.stdout, feed and feed.stdout):
-        if handed_on:
-            handed_on.close()
+    for pipe in (work.stdout, feed and feed.stdout):
+        if pipe:
+            pipe.close()
     _, status, used = os.wait4(work.pid, 0)
     work.returncode = os.waitstatus_to_exitcode(status)
     count = int(sink.communicate()[0])
@@ -74,18 +75,18 @@ def through_pipes(words: list[str], files: Sequence[str]) -> Run:
 
 
 def peak(words: list[str], files: Sequence[str]) -> int:
-    """The peak of the memory of a run in KB, measured every millisecond."""
+    """The maximum memory of a run in KB, measured every millisecond."""
     most = 0
     with open(files[0] if files else os.devnull) as given:
         work = subprocess.Popen([*words, *named(files)], stdin=given, stdout=subprocess.DEVNULL,
                                 stderr=subprocess.DEVNULL)
         while work.poll() is None:
             try:
-                told = Path(f"/proc/{work.pid}/status").read_text()
+                status = Path(f"/proc/{work.pid}/status").read_text()
             except OSError:
                 break
-            if "VmHWM:" in told:
-                most = max(most, int(told.split("VmHWM:")[1].split()[0]))
+            if "VmHWM:" in status:
+                most = max(most, int(status.split("VmHWM:")[1].split()[0]))
             time.sleep(0.001)
         work.wait()
     return most
@@ -98,16 +99,16 @@ def best(runs: Sequence[tuple[list[str], Sequence[str]]]) -> list[float]:
 
 
 def reference(work: Path) -> str | None:
-    """The plain program, if it can be built."""
-    made = work / "reference"
-    how = ["rustc", "-O", "--edition", "2021", "-o", str(made), str(TOP / "bench" / "reference.rs")]
+    """Builds the plain program, if possible."""
+    program = work / "reference"
+    how = ["rustc", "-O", "--edition", "2021", "-o", str(program), str(TOP / "bench" / "reference.rs")]
     if shutil.which("rustc") is None or subprocess.run(how, check=False).returncode:
         return None
-    return str(made)
+    return str(program)
 
 
 def plain_words(program: str | None, words: str) -> list[str] | None:
-    """The words with which the plain program does the work of a command, if it can."""
+    """The words of the plain program that correspond to a command; None if it cannot do this work."""
     command, *options = words.split()
     if program is None or command not in PLAIN:
         return None
@@ -129,14 +130,15 @@ def ribjasper(words: str) -> list[str]:
     return [str(PROGRAM), *words.split()]
 
 
-def made(words: str, files: Sequence[str], path: Path) -> str:
-    """The output of a command, as a file."""
+def output_file(words: str, files: Sequence[str], path: Path) -> str:
+    """Writes the output of a command to a file, and returns its name."""
     with open(files[0] if files else os.devnull) as given, open(path, "wb") as out:
         subprocess.run([*ribjasper(words), *named(files)], stdin=given, stdout=out, stderr=subprocess.DEVNULL)
     return str(path)
 
 
 def inputs(work: Path) -> dict[str, str]:
+    """Makes the inputs of all commands."""
     clean = work / "clean.raw"
     clean.write_bytes(bytes(96 * BLOCKS))
     damaged = work / "damaged.raw"
@@ -144,20 +146,20 @@ def inputs(work: Path) -> dict[str, str]:
     sheet = work / "sheet"
     sheet.write_text('FILE "a.wav" WAVE\nTRACK 01 AUDIO\nINDEX 01 00:00:00\n')
     files = {"clean": str(clean), "damaged": str(damaged), "sheet": str(sheet)}
-    files["script"] = made("gen --seed 1 --pictures 500", [], work / "script")
-    files["authored"] = made("author --lead-in 0 --length 88:53:45", [files["sheet"], files["script"]], work / "authored")
-    files["scratched"] = made("scratch --lead-in 0 --seed 1", [files["authored"]], work / "scratched")
-    files["again"] = made("scratch --lead-in 0 --seed 2", [files["authored"]], work / "again")
-    files["planar"] = made("planar", [files["authored"]], work / "planar")
-    whole = Path(made("convert --lead-in 0", [files["authored"]], work / "whole.cdg"))
+    files["script"] = output_file("gen --seed 1 --pictures 500", [], work / "script")
+    files["authored"] = output_file("author --lead-in 0 --length 88:53:45", [files["sheet"], files["script"]], work / "authored")
+    files["scratched"] = output_file("scratch --lead-in 0 --seed 1", [files["authored"]], work / "scratched")
+    files["again"] = output_file("scratch --lead-in 0 --seed 2", [files["authored"]], work / "again")
+    files["planar"] = output_file("planar", [files["authored"]], work / "planar")
+    whole = Path(output_file("convert --lead-in 0", [files["authored"]], work / "whole.cdg"))
     files["cdg"] = str(whole)
     song = work / "song.cdg"
     song.write_bytes(whole.read_bytes()[14232:])
     files["song"] = str(song)
-    files["saved"] = made("save --lead-in 0", [files["authored"]], work / "saved")
+    files["saved"] = output_file("save --lead-in 0", [files["authored"]], work / "saved")
     half = work / "half.raw"
     half.write_bytes(Path(files["authored"]).read_bytes()[: 96 * 1000])
-    files["begun"] = made("save --lead-in 0", [str(half)], work / "begun")
+    files["begun"] = output_file("save --lead-in 0", [str(half)], work / "begun")
     halved = work / "halved.raw"
     halved.write_bytes(Path(files["authored"]).read_bytes()[: 96 * 200_000])
     files["halved"] = str(halved)
@@ -165,7 +167,7 @@ def inputs(work: Path) -> dict[str, str]:
     rest.write_bytes(Path(files["authored"]).read_bytes()[96 * 1000 :])
     files["rest"] = str(rest)
     shows = work / "shows"
-    shows.write_text("".join(f"show {told_time(20 * k + 10)} {told_time(20 * k + 20)}\n" for k in range(20_000)))
+    shows.write_text("".join(f"show {time_text(20 * k + 10)} {time_text(20 * k + 20)}\n" for k in range(20_000)))
     files["shows"] = str(shows)
     fills = work / "fills"
     fills.write_text("fill 1\n" * ((2**26 - 23) // 7) + "show 80:00:00 80:00:00\n")
@@ -173,7 +175,7 @@ def inputs(work: Path) -> dict[str, str]:
     return files
 
 
-def told_time(block: int) -> str:
+def time_text(block: int) -> str:
     """A block as MM:SS:FF."""
     return f"{block // 4500:02}:{block // 75 % 60:02}:{block % 75:02}"
 
@@ -219,7 +221,7 @@ def plain_run(program: str | None, words: str, given: Sequence[str]) -> list[str
     """The words of the plain program, if it does this work; its output must be the same."""
     other = plain_words(program, words)
     if other is not None and written(other, given) != written(ribjasper(words), given):
-        raise ValueError("the plain program writes something else")
+        raise ValueError("the plain program has another output")
     return other
 
 
@@ -229,7 +231,7 @@ def limit(copied: float, given: Sequence[str], out: int) -> float:
 
 
 def row(program: str | None, what: str, words: str, given: Sequence[str], size: int | None, copy: str) -> str:
-    """A line of the table, after the output of the command was checked."""
+    """Measures a command, after a check of its output. Returns the line of the table."""
     ran = through_pipes(ribjasper(words), given)
     if ran.status > 1 or ran.written == 0 or (size is not None and ran.written != size):
         raise ValueError(f"wrote {ran.written} bytes with status {ran.status}")
@@ -238,12 +240,12 @@ def row(program: str | None, what: str, words: str, given: Sequence[str], size: 
     if other:
         runs.append((other, given))
     took, copied, *rest = best(runs)
-    least = limit(copied, given, ran.written) if given else None
+    minimum = limit(copied, given, ran.written) if given else None
     plain = rest[0] if rest else None
     ratio = "-" if plain is None else f"{plain / took:.2f}"
-    held = f"{peak(ribjasper(words), given) / 1024:.1f}"
-    cells = [f"`{words.split()[0]}`", what, milliseconds(least), milliseconds(took),
-             "-" if least is None else f"{took / least:.2f}", milliseconds(plain), ratio, held]
+    memory = f"{peak(ribjasper(words), given) / 1024:.1f}"
+    cells = [f"`{words.split()[0]}`", what, milliseconds(minimum), milliseconds(took),
+             "-" if minimum is None else f"{took / minimum:.2f}", milliseconds(plain), ratio, memory]
     return f"| {' | '.join(cells)} |"
 
 
@@ -254,15 +256,15 @@ def main() -> int:
     with tempfile.TemporaryDirectory() as folder:
         files = inputs(Path(folder))
         program = reference(Path(folder))
-        at = f"load {os.getloadavg()[0]:.1f}, {os.cpu_count()} processors"
-        print(f"Processor milliseconds, the least of {RUNS} runs; {at}.\n")
-        print("| Command | Input | Limit | Ours | Ours to it | The plain program | Its time to ours | MB held |")
+        machine = f"load {os.getloadavg()[0]:.1f}, {os.cpu_count()} processors"
+        print(f"Processor time in milliseconds, the minimum of {RUNS} runs; {machine}.\n")
+        print("| Command | Input | Limit | Our program | Our time / limit | Plain program | Plain time / our time | Memory (MB) |")
         print("|---|---|---|---|---|---|---|---|", flush=True)
         for words, names, what, size in ROWS:
             try:
                 print(row(program, what, words, [files[name] for name in names], size, files["clean"]), flush=True)
-            except ValueError as why:
-                print(f"{words}: {why}", file=sys.stderr)
+            except ValueError as error:
+                print(f"{words}: {error}", file=sys.stderr)
                 failed = True
     return 1 if failed else 0
 
