@@ -1,9 +1,8 @@
 #!/usr/bin/env python3
-"""A tour of all commands on one disc. It authors the stream of a cue sheet and a picture script, and reads its texts,
-its pictures and its packs back from it, also from scratched readings. The files remain in demo/, or in the folder that
-is named.
+"""A tour of all commands on one disc: demo.py [FOLDER]. It authors the stream of a cue sheet and a picture script, and
+reads texts, pictures and packs from it, also from scratched readings. The files remain in FOLDER (default: demo/).
 
-The tour runs bin/ribjasper. If this is not built yet, it compiles the program unproved, once for all calls."""
+The tour runs bin/ribjasper. If this is not built yet, it compiles the program without proving it, once for all calls."""
 from __future__ import annotations
 
 import argparse
@@ -19,9 +18,9 @@ from typing import Callable, Iterable, NamedTuple
 from pictures import as_png, as_text, is_shown_by
 
 TOP = Path(__file__).resolve().parent.parent
-# The program that `make` built, or else the one of the gate.
+# The program that `make` built, or otherwise the program of the gate.
 PROGRAMS = [TOP / "bin" / "ribjasper", TOP / "crates" / "ribjasper" / "out" / "ribjasper"]
-# The sizes of the units in the files of each kind.
+# The size of a unit in the files of each kind, in bytes.
 UNITS = {".raw": 96, ".sub": 96, ".cdg": 24, ".ppm": 15 + 3 * 300 * 216, ".save": 65_045}
 
 
@@ -42,7 +41,7 @@ class Built:
     """The program, already built."""
 
     def __init__(self, program: Path) -> None:
-        print(f"This is {program.relative_to(TOP)}.")
+        print(f"The program is {program.relative_to(TOP)}.")
         self.program = program
 
     def run(self, call: Call) -> tuple[int, str]:
@@ -57,29 +56,30 @@ class Built:
 
 
 class Tried:
-    """The program as one `rt try` compiles it: it runs the calls one after another, each as a case.
+    """The program as compiled by one call of `rt try`, which runs the calls in order, each as a case.
 
-    A call waits for its inputs at pipes, so earlier calls can write them."""
+    A call reads its inputs from pipes, so earlier calls can write these inputs."""
 
     def __init__(self, calls: list[Call]) -> None:
         if not shutil.which("rt"):
-            sys.exit("Neither bin/ribjasper nor the command rt of the Rattle kit is here.")
-        print("No bin/ribjasper stands yet: 'rt try' compiles the program, and proves nothing ('make' does).")
-        print("That takes half a minute on a quiet machine.", flush=True)
+            sys.exit("There is neither bin/ribjasper nor the command rt of the Rattle kit.")
+        print("There is no bin/ribjasper yet: 'rt try' compiles the program, but does not prove it ('make' does).")
+        print("This takes half a minute on an idle machine.", flush=True)
         self.folder = tempfile.TemporaryDirectory(prefix="ribjasper-")
-        room = Path(self.folder.name)
-        (room / "cases").mkdir()
+        folder = Path(self.folder.name)
+        (folder / "cases").mkdir()
         for number, call in enumerate(calls):
             pipes = self.pipes_of(call)
             for pipe in pipes:
                 os.mkfifo(pipe)
-            case = room / "cases" / self.name_of(number)
+            case = folder / "cases" / self.name_of(number)
             case.touch()
             words = [*call.words.split(), *["--"] * bool(pipes), *pipes]
             case.with_suffix(".args").write_text("".join(f"{word}\n" for word in words))
-        self.count, self.said = 0, 0
-        self.output = open(room / "output", "wb")
-        trial = ["rt", "try", "--seconds", "110", "--cases", str(room / "cases")]
+        # The number of finished calls, and the length of their output.
+        self.count, self.printed = 0, 0
+        self.output = open(folder / "output", "wb")
+        trial = ["rt", "try", "--seconds", "110", "--cases", str(folder / "cases")]
         self.trying = subprocess.Popen(trial, cwd=TOP / "crates" / "ribjasper", stdin=subprocess.DEVNULL,
                                        stdout=self.output, stderr=subprocess.PIPE, text=True)
 
@@ -93,17 +93,17 @@ class Tried:
     def run(self, call: Call) -> tuple[int | str, str]:
         for pipe, name in zip(self.pipes_of(call), call.inputs):
             threading.Thread(target=self.feed, args=(pipe, read(name)), daemon=True).start()
-        told = []
+        messages = []
         assert self.trying.stderr is not None
         for line in self.trying.stderr:
             if line.startswith("case="):
                 break
-            told.append(line)
+            messages.append(line)
         else:
-            sys.exit("".join(told) + "rt try ended before the tour did")
+            sys.exit("".join(messages) + "rt try ended before the tour")
         self.keep(call)
         status = line.partition("status=")[2].split()
-        return int(status[0]) if status else line.strip(), "".join(told)
+        return int(status[0]) if status else line.strip(), "".join(messages)
 
     @staticmethod
     def feed(pipe: str, content: bytes) -> None:
@@ -112,9 +112,9 @@ class Tried:
 
     def keep(self, call: Call) -> None:
         """Writes the output of the call to its file, without the line feed that `rt try` adds."""
-        printed = Path(self.output.name).read_bytes()
-        content = printed[self.said :].partition(f"== {self.name_of(self.count)}\n".encode())[2]
-        self.count, self.said = self.count + 1, len(printed)
+        output = Path(self.output.name).read_bytes()
+        content = output[self.printed :].partition(f"== {self.name_of(self.count)}\n".encode())[2]
+        self.count, self.printed = self.count + 1, len(output)
         unit = UNITS.get(Path(call.output).suffix, 1)
         Path(call.output).write_bytes(content[: len(content) - len(content) % unit])
 
@@ -124,7 +124,7 @@ class Tried:
 
 
 def read(name: str) -> bytes:
-    """The bytes of a file in demo/, which is the working folder."""
+    """The bytes of a file in the working folder."""
     return Path(name).read_bytes()
 
 
@@ -132,15 +132,15 @@ def lines(name: str) -> list[str]:
     return read(name).decode().splitlines()
 
 
-def tell(rows: Iterable[str]) -> None:
+def print_rows(rows: Iterable[str]) -> None:
     print("".join(f"   {row}\n" for row in rows), end="")
 
 
-def must(is_so: bool, what: str) -> None:
+def check(is_true: bool, fact: str) -> None:
     """Prints a fact, or ends the tour if it is false."""
-    if not is_so:
-        sys.exit(f"   It is not so: {what}")
-    tell([what])
+    if not is_true:
+        sys.exit(f"   This is false: {fact}")
+    print_rows([fact])
 
 
 def picture(name: str) -> None:
@@ -151,10 +151,10 @@ def show_screen() -> None:
     picture("hello.ppm")
     Path("screen.png").write_bytes(as_png(read("hello.ppm")))
     readme = TOP / "docs" / "screen.png"
-    must(is_shown_by(read("hello.ppm"), readme), "demo/screen.png: the picture of the README")
+    check(is_shown_by(read("hello.ppm"), readme), "demo/screen.png: the picture of the README")
 
 
-def with_hole(content: bytes, start: int) -> bytes:
+def damaged(content: bytes, start: int) -> bytes:
     """A reading with 25 destroyed bytes in a row."""
     return content[:start] + b"\x15" * 25 + content[start + 25 :]
 
@@ -169,20 +169,20 @@ def graphics(name: str) -> int:
 
 def show_thin() -> None:
     before, after = graphics("twice.cdg"), graphics("thin.cdg")
-    must(after < before == 2 * graphics("clean.cdg"), f"{before} graphics packs before, {after} after")
+    check(after < before == 2 * graphics("clean.cdg"), f"{before} graphics packs before, {after} after")
 
 
 def show_card() -> None:
     picture("card.ppm")
-    tell(lines("card.txt")[:4])
+    print_rows(lines("card.txt")[:4])
 
 
 # The files that no call writes, with the functions that make them.
 MADE: dict[str, Callable[[], bytes]] = {
     "hello.cue": lambda: (TOP / "examples" / "hello.cue").read_bytes(),
     "hello.script": lambda: (TOP / "examples" / "hello.script").read_bytes(),
-    "first.raw": lambda: with_hole(read("hello.raw"), 60_000),
-    "second.raw": lambda: with_hole(read("hello.raw"), 90_000),
+    "first.raw": lambda: damaged(read("hello.raw"), 60_000),
+    "second.raw": lambda: damaged(read("hello.raw"), 90_000),
     "song.cdg": lambda: read("clean.cdg")[24 * 593 :],
     "twice.cdg": lambda: b"".join(2 * pack for pack in packs(read("clean.cdg"))),
     "begun.raw": lambda: read("hello.raw")[: 96 * 555],
@@ -192,7 +192,7 @@ MADE: dict[str, Callable[[], bytes]] = {
 
 
 class Step(NamedTuple):
-    """A stop of the tour: its calls, and a function that shows their outputs."""
+    """A step of the tour: its calls, and a function that shows their outputs."""
 
     title: str
     calls: list[Call]
@@ -204,12 +204,12 @@ STEPS = [
     Step(
         "author: the subcode of examples/hello.cue with the pictures of examples/hello.script",
         [Call("hello.raw", f"author {N} --length 00:22:00", ("hello.cue", "hello.script"))],
-        lambda: must(len(read("hello.raw")) == 96 * 1830, "demo/hello.raw: 1,830 blocks"),
+        lambda: check(len(read("hello.raw")) == 96 * 1830, "demo/hello.raw: 1,830 blocks"),
     ),
     Step(
         "text: the CD-TEXT of its lead-in",
         [Call("hello.txt", f"text {N}", ("hello.raw",))],
-        lambda: tell(lines("hello.txt")),
+        lambda: print_rows(lines("hello.txt")),
     ),
     Step(
         "screen: the picture at 00:07:10, the third letter",
@@ -219,15 +219,15 @@ STEPS = [
     Step(
         "q: the Q channel, here the table of contents and the first block of the audio",
         [Call("frames.txt", f"q {N}", ("hello.raw",))],
-        lambda: tell(lines("frames.txt")[place] for place in (0, 3, 6, 9, 12, 180)),
+        lambda: print_rows(lines("frames.txt")[place] for place in (0, 3, 6, 9, 12, 180)),
     ),
     Step(
-        "scratch and check: bursts of wrong symbols, as a scratched disc has them",
+        "scratch and check: bursts of wrong symbols, as on a scratched disc",
         [
             Call("scratched.raw", f"scratch {N} --seed 7", ("hello.raw",)),
             Call("check.txt", f"check {N}", ("scratched.raw",)),
         ],
-        lambda: tell(lines("check.txt")),
+        lambda: print_rows(lines("check.txt")),
     ),
     Step(
         "convert: the packs of the scratched stream, as a .cdg file for a player",
@@ -235,7 +235,7 @@ STEPS = [
             Call("hello.cdg", f"convert {N}", ("scratched.raw",)),
             Call("clean.cdg", f"convert {N}", ("hello.raw",)),
         ],
-        lambda: must(read("hello.cdg") == read("clean.cdg"), "the packs of the stream without scratches"),
+        lambda: check(read("hello.cdg") == read("clean.cdg"), "the packs of the stream without scratches"),
     ),
     Step(
         "screen and state at 00:17:00 of the scratched stream, the test card",
@@ -246,42 +246,42 @@ STEPS = [
         show_card,
     ),
     Step(
-        "merge: two readings with 25 bytes destroyed in each; neither gives all packs back, both together do",
+        "merge: two readings with 25 bytes destroyed in each; neither has all packs, but both together do",
         [
             Call("first.cdg", f"convert {N}", ("first.raw",), status=1),
             Call("second.cdg", f"convert {N}", ("second.raw",), status=1),
             Call("both.cdg", f"merge {N}", ("first.raw", "second.raw")),
         ],
-        lambda: must(read("both.cdg") == read("clean.cdg"), "the packs of the stream without damage"),
+        lambda: check(read("both.cdg") == read("clean.cdg"), "the packs of the stream without damage"),
     ),
     Step(
-        "press: the .cdg file of a song on the disc of its cue sheet, in time with the audio",
+        "press: the .cdg file of a song on the disc of its cue sheet, synchronous with the audio",
         [
             Call("pressed.raw", f"press {N} --length 00:22:00", ("hello.cue", "song.cdg")),
             Call("pressed.cdg", f"convert {N}", ("pressed.raw",)),
         ],
-        lambda: must(packs(read("pressed.cdg"))[593:] == packs(read("song.cdg")), "the same file comes back"),
+        lambda: check(packs(read("pressed.cdg"))[593:] == packs(read("song.cdg")), "the packs of the file"),
     ),
     Step(
-        "thin: packs that change nothing become idle, here of a file that sends each pack twice",
+        "thin: packs that change nothing become idle; here the file has each pack twice",
         [Call("thin.cdg", "thin", ("twice.cdg",))],
         show_thin,
     ),
     Step(
-        "save and resume: a checkpoint after seven seconds, and a picture from the rest of the stream alone",
+        "save and resume: a checkpoint after seven seconds, and a picture from it and the rest of the stream",
         [
             Call("begun.save", f"save {N}", ("begun.raw",)),
             Call("resumed.ppm", "resume --at 00:17:00", ("begun.save", "rest.raw")),
         ],
-        lambda: must(read("resumed.ppm") == read("card.ppm"), "resume gives the test card of step 7"),
+        lambda: check(read("resumed.ppm") == read("card.ppm"), "the test card of step 7"),
     ),
     Step(
-        "planar and raw: the form that some drives give, and back",
+        "planar and raw: to the form that some drives return, and back",
         [
             Call("hello.sub", "planar", ("hello.raw",)),
             Call("back.raw", "raw", ("hello.sub",)),
         ],
-        lambda: must(read("back.raw") == read("hello.raw"), "demo/hello.sub, and back to the same blocks"),
+        lambda: check(read("back.raw") == read("hello.raw"), "the same blocks as in demo/hello.raw"),
     ),
     Step(
         "gen and trial: a script from a number, authored, scratched, corrected and compared",
@@ -289,12 +289,12 @@ STEPS = [
             Call("gen.script", "gen --seed 42 --pictures 1"),
             Call("trial.txt", "trial --seed 42 --pictures 1"),
         ],
-        lambda: tell([*lines("gen.script")[-1:], *lines("trial.txt")]),
+        lambda: print_rows([*lines("gen.script")[-1:], *lines("trial.txt")]),
     ),
     Step(
-        "Three equal wrong symbols in one word are too many: the word is told and written as zeros",
+        "Three equal wrong symbols in one word cannot be corrected: convert reports the word and writes zeros",
         [Call("short.cdg", "convert --lead-in 0", ("short.raw",), status=1)],
-        lambda: must(read("short.cdg") == bytes(24), "24 zeros"),
+        lambda: check(read("short.cdg") == bytes(24), "24 zeros"),
     ),
 ]
 
@@ -304,20 +304,20 @@ def run(program: Built | Tried, call: Call) -> None:
     for name in call.inputs:
         if name in MADE:
             Path(name).write_bytes(MADE[name]())
-    status, told = program.run(call)
-    if told:
-        tell([f"{told.strip()} (status {status})"])
+    status, message = program.run(call)
+    if message:
+        print_rows([f"{message.strip()} (status {status})"])
     if status != call.status:
-        sys.exit(f"   The status is {status}, and not {call.status}")
+        sys.exit(f"   The exit status is {status} instead of {call.status}")
 
 
 def main() -> int:
-    parser = argparse.ArgumentParser(description="A tour of each command on one disc.")
+    parser = argparse.ArgumentParser(description="A tour of all commands on one disc.")
     parser.add_argument("folder", nargs="?", type=Path, default=TOP / "demo", help="default: demo/")
     folder = parser.parse_args().folder.resolve()
     folder.mkdir(exist_ok=True)
     os.chdir(folder)
-    print("A tour of the commands. Its input is made here: the sheet and script of examples/, a stream authored of them.")
+    print("A tour of the commands. Its inputs are the cue sheet and the picture script of examples/, and the stream of them.")
     built = [program for program in PROGRAMS if program.exists()]
     calls = [call for step in STEPS for call in step.calls]
     program: Built | Tried = Built(built[0]) if built else Tried(calls)
@@ -329,8 +329,8 @@ def main() -> int:
             step.show()
     finally:
         program.end()
-    guide = "docs/GUIDE.md, for publishers, archivists or makers of players"
-    print(f"\nThe files are in {folder}. Where to go next: {guide}.")
+    guide = "docs/GUIDE.md, for publishers, archivists and player makers"
+    print(f"\nThe files are in {folder}. Next, read {guide}.")
     return 0
 
 

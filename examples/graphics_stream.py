@@ -1,9 +1,9 @@
 #!/usr/bin/env python3
 """Writes a small raw subcode stream with all nine graphics instructions to standard output.
 
-Each pack is made by the rules of docs/FORMATS.md, by its own arithmetic and not by the program's, so that the program can
-be compared with it. With the word `cdg` the packs are written as a .cdg file in place of the stream, and with the word
-`state` the lines of `ribjasper state` at its end. With `without CODE` the packs of one instruction are idle.
+This script makes each pack by the rules of docs/FORMATS.md without the program, so the program can be compared with it.
+With `cdg`, it writes the packs as a .cdg file instead of the stream; with `state`, the output of `ribjasper state` at the
+end of the stream. With `without CODE`, the packs of one instruction are idle.
 """
 import argparse
 import site
@@ -27,7 +27,7 @@ def generator(roots: int) -> list[int]:
 
 
 def parity(symbols: list[int], count: int) -> list[int]:
-    """The parity symbols that follow the symbols: the remainder by the generator."""
+    """The parity symbols that follow the symbols: the remainder of the division by the generator."""
     divisor = generator(count)
     remainder = symbols + [0] * count
     for place in range(len(symbols)):
@@ -94,7 +94,7 @@ def letter(name: str, colours: tuple[int, int], row: int, column: int) -> list[P
 
 LOW = [0x000, 0xF00, 0x00F, 0xFF0, 0x0F0, 0x0FF, 0xF0F, 0xFFF]
 HIGH = [0x888, 0x800, 0x080, 0x008, 0x880, 0x088, 0x808, 0x444]
-# The transparency levels, which players keep and do not show.
+# The transparency levels, which players store but do not show.
 LEVELS = [0] + list(range(48, 63))
 
 
@@ -107,7 +107,7 @@ def state() -> list[str]:
 
 
 def scene() -> list[Pack]:
-    """The packs; the border has the colour of the memory, so players that draw the border into the memory agree."""
+    """The packs. The border has the colour of the memory, because some players draw the border into the memory."""
     packs = [memory_preset(2), border_preset(2)]
     packs.append(colours(30, LOW))
     packs.append(colours(31, HIGH))
@@ -148,7 +148,7 @@ def main() -> int:
         description="Writes a small raw subcode stream with all nine graphics instructions to standard "
         "output."
     )
-    others = parser.add_subparsers(dest="other", title="what may be written in its place")
+    others = parser.add_subparsers(dest="other", title="other outputs")
     others.add_parser("cdg", help="the packs as a .cdg file")
     others.add_parser("state", help="the lines of `ribjasper state` at its end")
     without = others.add_parser("without", help="a stream in which one instruction is idle")

@@ -1,4 +1,4 @@
-"""Pixmaps of 300 by 216 pixels, as `ribjasper screen` writes them, shown in a terminal or written as PNG files."""
+"""Converts pixmaps of 300 by 216 pixels, the output of `ribjasper screen`, to text for a terminal and to PNG files."""
 import os
 import struct
 import sys
@@ -10,19 +10,19 @@ Pixel = tuple[int, int, int]
 
 WIDTH, HEIGHT = 300, 216
 HEADER = b"P6\n300 216\n255\n"
-# A picture at twice the size.
+# The size of a pixel of the pixmap in the PNG file.
 SCALE = 2
 
 
 def rows_of(pixmap: bytes) -> list[list[Pixel]]:
     if not pixmap.startswith(HEADER) or len(pixmap) != len(HEADER) + 3 * WIDTH * HEIGHT:
-        sys.exit("this is no pixmap of 300 by 216 pixels")
+        sys.exit("this is not a pixmap of 300 by 216 pixels")
     pixels = [(pixmap[at], pixmap[at + 1], pixmap[at + 2]) for at in range(len(HEADER), len(pixmap), 3)]
     return [pixels[WIDTH * y : WIDTH * (y + 1)] for y in range(HEIGHT)]
 
 
 def code_of(pixel: Pixel) -> str:
-    """A colour as a terminal expects it after its code 38 or 48."""
+    """A colour in the form that follows the codes 38 and 48 of terminals."""
     if os.environ.get("COLORTERM") in ("truecolor", "24bit"):
         return "2;{};{};{}".format(*pixel)
     red, green, blue = (round(part / 51) for part in pixel)
@@ -38,14 +38,14 @@ def coloured(rows: list[list[Pixel]]) -> Iterator[str]:
 
 
 def grey(rows: list[list[Pixel]]) -> Iterator[str]:
-    """Lines with one character for each six by twelve pixels."""
+    """Lines of characters, each for six by twelve pixels."""
     for y in range(6, HEIGHT, 12):
         light = ((3 * red + 6 * green + blue) / 2551 for red, green, blue in rows[y][3::6])
         yield f"    |{''.join(' .:+#'[int(5 * part)] for part in light)}|"
 
 
 def as_text(pixmap: bytes) -> str:
-    """A picture for a terminal, or in plain characters if the output is no terminal."""
+    """A picture in colour for a terminal, or in plain characters if the output is not a terminal."""
     is_terminal = sys.stdout.isatty() and os.environ.get("TERM", "dumb") != "dumb"
     return "\n".join((coloured if is_terminal else grey)(rows_of(pixmap)))
 
@@ -69,7 +69,7 @@ def as_png(pixmap: bytes) -> bytes:
 
 
 def is_shown_by(pixmap: bytes, file: Path) -> bool:
-    """Whether a PNG file as `as_png` writes it shows the picture."""
+    """Whether a PNG file of `as_png` shows this picture."""
     content, packed, at = file.read_bytes(), b"", 8
     while at < len(content):
         length, kind = struct.unpack(">I4s", content[at : at + 8])

@@ -1,11 +1,11 @@
-/* A small player on the library.
+/* A small player that uses the library.
 
    player BLOCKS.. <stream   feeds a raw stream block by block, and after each of these numbers of blocks (ascending)
                              writes the screen to the file BLOCKS.ppm
    player -p PACKS.. <file   draws a .cdg file pack by pack, in the same way
    player <stream            feeds a raw stream, and after each second writes the screen to the file SECONDS.ppm
-   player -m <stream         feeds it again and again, and prints how many blocks per second the player processes, and how
-                             long it takes to read the screen */
+   player -m <stream         feeds the stream again and again, and prints the speed of the player, and the time for reading
+                             the screen */
 #include "ribjasper.h"
 
 #include <stdio.h>
@@ -18,7 +18,7 @@
 #endif
 
 #define MEASURED 1000000L
-#define LOOKS 2000
+#define READS 2000
 #define BLOCKS_A_SECOND 75
 #define PACK 24
 
@@ -41,7 +41,7 @@ static int write_screen(const ribjasper_player *player, long number)
     return fclose(file) != 0 || !written;
 }
 
-/* Feeds the next block or draws the next pack of the input; returns 1, or 0 at its end, or -1. */
+/* Feeds the next block or draws the next pack of the input. Returns 1, 0 at the end of the input, or -1 on failure. */
 static int step(ribjasper_player *player, int packs)
 {
     uint8_t unit[RIBJASPER_BLOCK];
@@ -88,8 +88,8 @@ static double seconds_since(clock_t start)
     return (double)(clock() - start) / CLOCKS_PER_SEC;
 }
 
-/* A picture made by a plain loop: three bytes for each pixel, from a table of sixteen colours. */
-static void plain_picture(const uint8_t *pixels, const uint16_t *colours, uint8_t *picture)
+/* Makes a picture with a simple loop: three bytes for each pixel, from a table of sixteen colours. */
+static void simple_picture(const uint8_t *pixels, const uint16_t *colours, uint8_t *picture)
 {
     uint8_t table[RIBJASPER_COLOURS][3];
     long i;
@@ -102,16 +102,16 @@ static void plain_picture(const uint8_t *pixels, const uint16_t *colours, uint8_
         memcpy(picture + 3 * i, table[pixels[i]], 3);
 }
 
-/* Reads the screen LOOKS times: as a picture, as colour numbers, and as the picture that the plain loop makes of these. */
-static int measure_looks(const ribjasper_player *player)
+/* Reads the screen READS times, as a picture and as colour numbers, and makes a picture of these with the simple loop. */
+static int measure_reads(const ribjasper_player *player)
 {
-    static uint8_t picture[RIBJASPER_PICTURE], plain[RIBJASPER_PICTURE], pixels[RIBJASPER_PIXELS];
+    static uint8_t picture[RIBJASPER_PICTURE], simple[RIBJASPER_PICTURE], pixels[RIBJASPER_PIXELS];
     uint16_t colours[RIBJASPER_COLOURS];
     double pictures = 0, screens = 0, loops = 0;
-    long looks;
+    long reads;
     if (ribjasper_player_colours(player, colours) != RIBJASPER_DONE)
         return 1;
-    for (looks = 0; looks < LOOKS; looks++) {
+    for (reads = 0; reads < READS; reads++) {
         clock_t start = clock();
         if (ribjasper_player_picture(player, picture) != RIBJASPER_DONE)
             return 1;
@@ -121,15 +121,15 @@ static int measure_looks(const ribjasper_player *player)
             return 1;
         screens += seconds_since(start);
         start = clock();
-        plain_picture(pixels, colours, plain);
+        simple_picture(pixels, colours, simple);
         loops += seconds_since(start);
-        if (memcmp(picture, plain, sizeof picture) != 0) {
-            fprintf(stderr, "player: the picture is not that of the plain loop\n");
+        if (memcmp(picture, simple, sizeof picture) != 0) {
+            fprintf(stderr, "player: the picture differs from that of the simple loop\n");
             return 1;
         }
     }
-    printf("a picture in %.1f microseconds (a plain loop takes %.1f), a screen in %.1f\n", 1e6 * pictures / LOOKS,
-           1e6 * loops / LOOKS, 1e6 * screens / LOOKS);
+    printf("a picture in %.1f microseconds (a simple loop needs %.1f), a screen in %.1f\n", 1e6 * pictures / READS,
+           1e6 * loops / READS, 1e6 * screens / READS);
     return 0;
 }
 
@@ -141,7 +141,7 @@ static int measure(ribjasper_player *player)
     double seconds;
     long fed;
     if (blocks == 0) {
-        fprintf(stderr, "player: there is no block\n");
+        fprintf(stderr, "player: the input has no block\n");
         return 1;
     }
     if (ribjasper_player_begin(player, RIBJASPER_RAW, 0) != RIBJASPER_DONE)
@@ -153,7 +153,7 @@ static int measure(ribjasper_player *player)
     seconds = seconds_since(start);
     printf("%ld blocks in %.2f seconds: %.0f times real time\n", MEASURED, seconds,
            (double)MEASURED / BLOCKS_A_SECOND / seconds);
-    return measure_looks(player);
+    return measure_reads(player);
 }
 
 int main(int argc, char **argv)
@@ -161,10 +161,10 @@ int main(int argc, char **argv)
     ribjasper_player player = RIBJASPER_CLOSED;
     int status;
 #ifdef _WIN32
-    _setmode(0, _O_BINARY); /* standard input is bytes there too */
+    _setmode(0, _O_BINARY); /* standard input is binary */
 #endif
     if (ribjasper_player_open(&player) != RIBJASPER_DONE) {
-        fprintf(stderr, "player: there is no memory\n");
+        fprintf(stderr, "player: out of memory\n");
         return 1;
     }
     if (argc < 2)

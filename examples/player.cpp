@@ -1,5 +1,5 @@
-/* A player in C++ on the library: a class that owns a player, a picture in which only the changes are drawn, and seeking in
-   both directions, from checkpoints in memory.
+/* A player in C++ that uses the library. It draws only the changes of the picture, and seeks in both directions from
+   checkpoints in memory.
 
    player BLOCKS.. <stream   seeks to each of these numbers of blocks of a raw stream, in the given order, and writes the
                              screen there to the file BLOCKS.ppm */
@@ -17,7 +17,7 @@
 #include <string>
 #include <vector>
 
-/* An open player, which its destructor closes. It can be moved; a function of the library copies it. */
+/* An open player, which its destructor closes. It can be moved, but not copied. */
 class Player {
 public:
     Player()
@@ -77,7 +77,7 @@ private:
     ribjasper_player player = RIBJASPER_CLOSED;
 };
 
-/* A stream that is played, with the current picture and the checkpoints for seeking back. */
+/* A stream with its player, its current picture, and checkpoints for seeking back. */
 class Show {
 public:
     explicit Show(std::vector<uint8_t> bytes) : stream(std::move(bytes)), picture(RIBJASPER_PICTURE)
@@ -90,7 +90,7 @@ public:
         return stream.size() / RIBJASPER_BLOCK;
     }
 
-    /* Seeks to a block: from here, or from the last checkpoint before it. */
+    /* Seeks to a block, from the current position or from the last checkpoint before the block. Returns the picture. */
     const std::vector<uint8_t> &at(size_t moment)
     {
         auto before = std::prev(checkpoints.upper_bound(moment));
@@ -100,7 +100,7 @@ public:
             player.draw(whole, picture);
         }
         while (now < moment)
-            step(std::min(moment - now, apart - now % apart));
+            step(std::min(moment - now, interval - now % interval));
         return picture;
     }
 
@@ -114,11 +114,11 @@ private:
             player.draw(whole, picture);
         else if (change.left < change.right)
             player.draw(change, picture);
-        if (now % apart == 0)
+        if (now % interval == 0)
             checkpoints.emplace(now, player.save());
     }
 
-    static constexpr size_t apart = 10 * RIBJASPER_BLOCKS_A_SECOND;
+    static constexpr size_t interval = 10 * RIBJASPER_BLOCKS_A_SECOND;
     static constexpr ribjasper_change whole = { 0, 0, RIBJASPER_WIDTH, RIBJASPER_HEIGHT, 0, 0 };
     std::vector<uint8_t> stream, picture;
     std::map<size_t, std::array<uint8_t, RIBJASPER_CHECKPOINT>> checkpoints;

@@ -1,10 +1,10 @@
 #!/usr/bin/env python3
-"""A player in Python on the library, by ctypes.
+"""A player in Python that uses the library with ctypes.
 
     player.py BLOCKS.. <stream     feeds a raw stream, and after each of these numbers of blocks (ascending) writes the
                                    screen to the file BLOCKS.ppm
 
-The library is RIBJASPER_LIBRARY, or lib/libribjasper.so.0 of this checkout, or that which the system finds."""
+The library is RIBJASPER_LIBRARY, lib/libribjasper.so.0 of this checkout, or otherwise the library that the system finds."""
 import ctypes
 import os
 import sys
@@ -27,8 +27,8 @@ class Change(ctypes.Structure):
 
 
 def library() -> ctypes.CDLL:
-    beside = Path(__file__).resolve().parent.parent / "lib" / "libribjasper.so.0"
-    return ctypes.CDLL(os.environ.get("RIBJASPER_LIBRARY") or (str(beside) if beside.exists() else beside.name))
+    built = Path(__file__).resolve().parent.parent / "lib" / "libribjasper.so.0"
+    return ctypes.CDLL(os.environ.get("RIBJASPER_LIBRARY") or (str(built) if built.exists() else built.name))
 
 
 class Player:

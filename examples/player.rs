@@ -1,9 +1,9 @@
-//! A player in Rust on the library for programs in C.
+//! A player in Rust that uses the C library.
 //!
 //! `player BLOCKS.. <stream` feeds a raw stream, and after each of these numbers of blocks (ascending) writes the screen to
 //! the file BLOCKS.ppm.
 //!
-//! rustc -O examples/player.rs -L lib -l dylib=ribjasper
+//! rustc --edition 2021 -O examples/player.rs -L lib -l dylib=ribjasper
 use std::error::Error;
 use std::ffi::CStr;
 use std::fs::File;
@@ -80,8 +80,8 @@ impl Player {
         Ok(change)
     }
 
-    /// Writes red, green and blue of the changed pixels into a picture of the whole screen. The call takes the player out of
-    /// its handle while it reads it, so it needs an exclusive reference.
+    /// Writes red, green and blue of the changed pixels into a picture of the whole screen. The library moves the player out of
+    /// its handle while it reads it, so this needs an exclusive reference.
     fn draw(&mut self, change: &Change, picture: &mut [u8]) -> Result<(), Box<dyn Error>> {
         let (left, top, right, bottom) = if change.colours == 1 {
             (0, 0, WIDTH as u32, HEIGHT as u32)
@@ -116,7 +116,7 @@ impl Drop for Player {
     }
 }
 
-/// An answer of the library; an error in words.
+/// Turns an answer of the library into a result; an error has the answer in words.
 fn check(answer: i32) -> Result<(), Box<dyn Error>> {
     if answer == 0 {
         return Ok(());
@@ -138,7 +138,7 @@ fn main() -> Result<(), Box<dyn Error>> {
     let mut done = 0;
     for word in std::env::args().skip(1) {
         let moment: usize = word.parse()?;
-        let change = player.feed(blocks.get(done..moment).ok_or("there is no such block")?)?;
+        let change = player.feed(blocks.get(done..moment).ok_or("the stream has no such block")?)?;
         player.draw(&change, &mut picture)?;
         done = moment;
         let mut file = File::create(format!("{moment}.ppm"))?;

@@ -18,7 +18,8 @@ G_DECLARE_FINAL_TYPE(RibjasperDec, ribjasper_dec, RIBJASPER, DEC, GstVideoDecode
 struct _RibjasperDec {
     GstVideoDecoder parent;
     ribjasper_player player;
-    gboolean is_raw;  /* blocks of 96 bytes; otherwise packs of 24, four of which are 1/75 of a second too */
+    /* The input is blocks of 96 bytes, or otherwise packs of 24 bytes. A block or four packs last 1/75 second. */
+    gboolean is_raw;
     guint lead_in;
     gboolean is_begun;
     guint64 frames;
@@ -45,7 +46,7 @@ static GstStaticPadTemplate sink_template = GST_STATIC_PAD_TEMPLATE("sink", GST_
 static GstStaticPadTemplate source_template = GST_STATIC_PAD_TEMPLATE("src", GST_PAD_SRC, GST_PAD_ALWAYS,
     GST_STATIC_CAPS(GST_VIDEO_CAPS_MAKE("{ BGRx, RGBx, RGB16 }") ", width = 300, height = 216"));
 
-/* If a call of the library failed, posts an error message of the element with the answer in words. */
+/* Whether a call of the library succeeded. If not, posts an error message of the element with the answer in words. */
 static gboolean is_done(RibjasperDec *self, gint32 answer, const gchar *what)
 {
     char text[RIBJASPER_ANSWER_TEXT];
@@ -71,7 +72,7 @@ static gboolean begin(RibjasperDec *self, GstVideoCodecState *input)
     }
     g_clear_pointer(&allowed, gst_caps_unref);
     if (!is_done(self, ribjasper_player_begin(&self->player, self->is_raw ? RIBJASPER_RAW : RIBJASPER_PACKS, self->lead_in),
-                 "the stream does not begin"))
+                 "the player cannot begin the stream"))
         return FALSE;
     output = gst_video_decoder_set_output_state(decoder, format, RIBJASPER_WIDTH, RIBJASPER_HEIGHT, input);
     output->info.fps_n = RIBJASPER_BLOCKS_A_SECOND;
@@ -86,10 +87,10 @@ static gboolean start(GstVideoDecoder *decoder)
 {
     RibjasperDec *self = RIBJASPER_DEC(decoder);
     gst_video_decoder_set_packetized(decoder, FALSE);
-    /* A file source has no caps: then the property `layout` gives the form of the input. */
+    /* A file source has no caps. Then the property `layout` determines the form of the input. */
     gst_video_decoder_set_needs_format(decoder, FALSE);
     self->is_begun = FALSE;
-    return is_done(self, ribjasper_player_open(&self->player), "the player does not open");
+    return is_done(self, ribjasper_player_open(&self->player), "the player cannot be opened");
 }
 
 static gboolean stop(GstVideoDecoder *decoder)
@@ -105,7 +106,7 @@ static gboolean set_format(GstVideoDecoder *decoder, GstVideoCodecState *state)
     return begin(self, state);
 }
 
-/* Cuts the stream into pieces of 1/75 second; a rest at the end is dropped. */
+/* Splits the stream into pieces of 1/75 second. Extra bytes at the end are ignored. */
 static GstFlowReturn parse(GstVideoDecoder *decoder, GstVideoCodecFrame *frame, GstAdapter *adapter, gboolean at_eos)
 {
     (void)frame, (void)at_eos;
@@ -136,7 +137,7 @@ static gboolean play(RibjasperDec *self, GstBuffer *buffer)
     else
         answer = ribjasper_player_draw_all(&self->player, in.data, in.size / RIBJASPER_PACK, &change);
     gst_buffer_unmap(buffer, &in);
-    return is_done(self, answer, "no block is played");
+    return is_done(self, answer, "the blocks cannot be played");
 }
 
 /* Writes the screen into a buffer of the output. On failure it posts an error message of the element. */
@@ -156,7 +157,7 @@ static gboolean show(RibjasperDec *self, GstVideoCodecState *state, GstBuffer *b
     answer = ribjasper_player_pixels(&self->player, pixels, 0, 0, RIBJASPER_WIDTH, RIBJASPER_HEIGHT,
                                      GST_VIDEO_FRAME_PLANE_DATA(&out, 0), (gsize)stride * RIBJASPER_HEIGHT, stride);
     gst_video_frame_unmap(&out);
-    return is_done(self, answer, "no picture is written");
+    return is_done(self, answer, "the picture cannot be written");
 }
 
 static GstFlowReturn handle_frame(GstVideoDecoder *decoder, GstVideoCodecFrame *frame)
@@ -216,11 +217,11 @@ static void ribjasper_dec_class_init(RibjasperDecClass *class)
     object->set_property = set_property;
     object->get_property = get_property;
     g_object_class_install_property(object, PROP_LAYOUT, g_param_spec_enum("layout", "Layout",
-        "what comes from a source without caps", TYPE_LAYOUT, RIBJASPER_PACKS, G_PARAM_READWRITE | G_PARAM_STATIC_STRINGS));
+        "the form of the input from a source without caps", TYPE_LAYOUT, RIBJASPER_PACKS, G_PARAM_READWRITE | G_PARAM_STATIC_STRINGS));
     g_object_class_install_property(object, PROP_LEAD_IN, g_param_spec_uint("lead-in", "Lead-in",
-        "blocks of the lead-in", 0, RIBJASPER_MOST_LEAD_IN, 0, G_PARAM_READWRITE | G_PARAM_STATIC_STRINGS));
+        "the number of blocks of the lead-in", 0, RIBJASPER_MOST_LEAD_IN, 0, G_PARAM_READWRITE | G_PARAM_STATIC_STRINGS));
     gst_element_class_set_static_metadata(element, "CD+G decoder", "Codec/Decoder/Video",
-        "Draws the graphics of Compact Discs by a proved library", "The Ribjasper authors");
+        "Draws the graphics of Compact Discs with a proved library", "The Ribjasper authors");
     gst_element_class_add_static_pad_template(element, &sink_template);
     gst_element_class_add_static_pad_template(element, &source_template);
     decoder->start = start;
@@ -236,13 +237,13 @@ static void ribjasper_dec_init(RibjasperDec *self)
     (void)self;
 }
 
-/* A .cdg file: each of the first packs is a CD+G pack or empty, and some are CD+G packs. */
+/* Finds .cdg files: each of the first packs is a CD+G pack or empty, and at least one is a CD+G pack. */
 static void find_packs(GstTypeFind *find, gpointer data)
 {
-    enum { LOOKED_AT = 300 };
+    enum { TESTED = 300 };
     guint graphics = 0, n;
     (void)data;
-    for (n = 0; n < LOOKED_AT; n++) {
+    for (n = 0; n < TESTED; n++) {
         const guint8 *pack = gst_type_find_peek(find, (gint64)n * RIBJASPER_PACK, RIBJASPER_PACK);
         if (pack == NULL)
             break;
@@ -251,17 +252,17 @@ static void find_packs(GstTypeFind *find, gpointer data)
         else if ((pack[0] & 63) != 0)
             return;
     }
-    if (graphics > 0 && (n == LOOKED_AT || gst_type_find_get_length(find) == (guint64)n * RIBJASPER_PACK))
+    if (graphics > 0 && (n == TESTED || gst_type_find_get_length(find) == (guint64)n * RIBJASPER_PACK))
         gst_type_find_suggest_empty_simple(find, GST_TYPE_FIND_LIKELY, PACK_CAPS);
 }
 
-/* Raw subcode: at least three in four of the first blocks have a Q frame with a right check. */
+/* Finds raw subcode: at least three quarters of the first blocks have a Q frame with a correct CRC. */
 static void find_blocks(GstTypeFind *find, gpointer data)
 {
-    enum { LOOKED_AT = 75 };
+    enum { TESTED = 75 };
     guint right = 0, n;
     (void)data;
-    for (n = 0; n < LOOKED_AT; n++) {
+    for (n = 0; n < TESTED; n++) {
         const guint8 *block = gst_type_find_peek(find, (gint64)n * RIBJASPER_BLOCK, RIBJASPER_BLOCK);
         guint8 q[12] = {0}, bit;
         ribjasper_q_frame frame;

@@ -1,5 +1,5 @@
 #!/usr/bin/env python3
-"""Writes the audio of a song: chords, a bass, and a note for each syllable of its lyrics at its time. It lasts one
+"""Writes the audio of a song: chords, a bass, and a note at the time of each syllable of the lyrics. The audio lasts one
 minute for song.lrc, and otherwise until five seconds after the last word.
 
 make_audio.py OUT.wav [LYRICS]"""
@@ -15,11 +15,11 @@ from array import array
 from pathlib import Path
 from typing import Iterator, NamedTuple
 
-# The package of this checkout, installed or not.
+# Use the package of this checkout, even if another one is installed.
 site.addsitedir(str(Path(__file__).resolve().parents[2] / "desk"))
 
-from ribjasper.songs.song_files import read_song# noqa: E402
-from ribjasper.songs.songs import Song# noqa: E402
+from ribjasper.songs.song_files import read_song  # noqa: E402
+from ribjasper.songs.songs import Song  # noqa: E402
 
 HERE = Path(__file__).resolve().parent
 
@@ -28,7 +28,7 @@ BEAT = 60 / 108
 BAR = 4 * BEAT
 # Two bars for each chord, in semitones from the note of 440 Hz.
 CHORDS = ((-9, -5, -2), (-14, -10, -7), (-12, -9, -5), (-16, -12, -9))
-# The tune, a phrase for each line of the song.
+# The tune, with a phrase for each line of the song.
 PHRASES = (
     (3, 3, 7, 5, 3, 5, 7, 5, 3, 0),
     (0, 0, 3, 2, 0, 2, 3, 2, -2),
@@ -44,8 +44,7 @@ PHRASES = (
 
 
 class Note(NamedTuple):
-    """A note: its beginning and length in seconds, its pitch, its loudness, and its place from 0 (left) to 1
-    (right)."""
+    """A note: its beginning and length in seconds, pitch in semitones, loudness, and position from 0 (left) to 1 (right)."""
 
     start: float
     length: float
@@ -93,7 +92,7 @@ def chords(seconds: int) -> Iterator[Note]:
 
 
 def mixed(notes: list[Note], seconds: int) -> "array[int]":
-    """The left and right channel, sample by sample."""
+    """The samples of the left and the right channel, alternating."""
     sides = [[0] * (RATE * seconds) for _ in range(2)]
     for note in notes:
         at = int(RATE * note.start)
