@@ -1,6 +1,6 @@
 #!/bin/sh
-# The examples in C++, Python and Rust on the shared library: their screens equal those of the command `screen`, byte for
-# byte, after seeking forward and back. Skipped if something that make builds is missing; each example is skipped if its
+# Compares the screens of the examples in C++, Python and Rust, which use the shared library, with those of the command `screen`,
+# byte for byte, after seeking forward and back. Skipped if something that make builds is missing; an example is skipped if its
 # compiler is missing.
 set -e
 cd "$(dirname "$0")/../.."
@@ -13,10 +13,10 @@ cp examples/hello.cue examples/hello.script "$work"
 cd "$work"
 "$top/bin/ribjasper" author --lead-in 0 --length 00:22:00 -- hello.cue hello.script >stream
 moments="2 77 150 301 449 535 777 1111 1350 1649"
-mkdir wanted
+mkdir expected
 for blocks in $moments; do
     time=$(printf '%02d:%02d:%02d' $((blocks / 4500)) $((blocks / 75 % 60)) $((blocks % 75)))
-    "$top/bin/ribjasper" screen --lead-in 0 --at "$time" <stream >wanted/$blocks.ppm
+    "$top/bin/ribjasper" screen --lead-in 0 --at "$time" <stream >expected/$blocks.ppm
 done
 export LD_LIBRARY_PATH="$top/lib"
 failed=0
@@ -32,7 +32,7 @@ compare() {
         return
     fi
     for blocks in $order; do
-        cmp "wanted/$blocks.ppm" "$name/$blocks.ppm" || { failed=1; return; }
+        cmp "expected/$blocks.ppm" "$name/$blocks.ppm" || { failed=1; return; }
     done
     echo "compare_examples: the screens of the example in $name are equal"
 }

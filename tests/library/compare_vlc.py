@@ -1,9 +1,9 @@
 #!/usr/bin/env python3
 """Compares pictures of VLC with those of `screen`: compare_vlc.py PROGRAM FILE FOLDER
 
-FILE is a .cdg file that begins with the packs of block 0, FOLDER has VLC's pictures sceneNNNNN.png, one for each block. VLC
-converts them to YUV with half the colours, so the centres of tiles are compared, within MOST levels. A busy machine drops
-pictures, so a picture may be that of a later block.
+FILE is a .cdg file that begins with the packs of block 0. FOLDER has VLC's pictures sceneNNNNN.png, one for each block. VLC
+converts them to YUV with half the resolution of colours, so only the centres of tiles are compared. They may differ by
+MAX_DIFFERENCE levels. On a busy machine VLC drops pictures, so a picture may belong to a later block.
 """
 import argparse
 import subprocess
@@ -12,7 +12,7 @@ from pathlib import Path
 
 from PIL import Image
 
-MOST, LATEST, BLOCKS = 8, 6, 1798
+MAX_DIFFERENCE, MAX_DELAY, BLOCKS = 8, 6, 1798
 WIDTH, HEIGHT, TILE_WIDTH, TILE_HEIGHT = 300, 216, 6, 12
 MOMENTS = (400, 777, 800, 1200, 1500)
 
@@ -27,7 +27,7 @@ def centres(picture: Image.Image) -> list[int]:
     return [level for place in places for level in pixels[3 * place : 3 * place + 3]]
 
 
-def shown(program: str, file: Path, block: int) -> list[int]:
+def expected_centres(program: str, file: Path, block: int) -> list[int]:
     time = f"{block // 4500:02}:{block // 75 % 60:02}:{block % 75:02}"
     words = [program, "screen", "--lead-in", "0", "--form", "cooked", "--at", time, "--", str(file)]
     pixels = subprocess.run(words, capture_output=True, check=True).stdout[-3 * WIDTH * HEIGHT :]
@@ -42,21 +42,22 @@ def main() -> int:
     arguments = parser.parse_args()
     dropped = BLOCKS - len(list(arguments.folder.glob("scene*.png")))
     if dropped > BLOCKS // 4:
-        print(f"compare_plugins: skipped the pictures of VLC, it dropped {dropped} of {BLOCKS}")
+        print(f"compare_plugins: the pictures of VLC are skipped, it dropped {dropped} of {BLOCKS}")
         return 0
     for moment in MOMENTS:
         with Image.open(arguments.folder / f"scene{moment:05}.png") as picture:
             levels = centres(picture)
         distances = [
             max(
-                abs(one - other) for one, other in zip(levels, shown(arguments.program, arguments.file, moment + later))
+                abs(one - other)
+                for one, other in zip(levels, expected_centres(arguments.program, arguments.file, moment + later))
             )
-            for later in range(dropped + LATEST + 1)
+            for later in range(dropped + MAX_DELAY + 1)
         ]
-        if min(distances) > MOST:
+        if min(distances) > MAX_DIFFERENCE:
             print(f"compare_vlc: picture {moment} differs by {min(distances)} levels", file=sys.stderr)
             return 1
-    print(f"compare_plugins: VLC, a .cdg file: {len(MOMENTS)} pictures are those of screen, within {MOST} levels")
+    print(f"compare_plugins: VLC, a .cdg file: {len(MOMENTS)} pictures equal those of screen, within {MAX_DIFFERENCE} levels")
     return 0
 
 

@@ -1,38 +1,38 @@
-/* The heap of another library that was built with the same kit: the three functions that its proved part calls, over malloc.
-   A request of size zero still gets a block, and a refused request gets an address that is not null, because the proved part
-   has no null pointers. */
+/* The heap of another library that was built with the same kit: the three functions that its proved part calls, implemented
+   with malloc. A request of size zero still gets a block. A refused request gets an address that is not null, because the proved
+   part has no null pointers. */
 #include <stdbool.h>
 #include <stddef.h>
 #include <stdlib.h>
 
-/* Whether there is a block, and its address. */
-typedef struct tried {
+/* Whether a block was allocated, and its address. */
+typedef struct allocation {
     bool ok;
     void *p;
-} tried;
+} allocation;
 
-tried rattle_alloc(size_t size, size_t align);
-tried rattle_realloc(void *old, size_t kept, size_t size, size_t align);
+allocation rattle_alloc(size_t size, size_t align);
+allocation rattle_realloc(void *old, size_t kept, size_t size, size_t align);
 void rattle_dealloc(void *block);
 
-static char nothing;
+static char no_block;
 
-static tried found(void *block)
+static allocation allocation_of(void *block)
 {
-    tried result = {block != NULL, block != NULL ? block : &nothing};
+    allocation result = {block != NULL, block != NULL ? block : &no_block};
     return result;
 }
 
 /* The alignment divides 16, and malloc returns blocks that are aligned to 16. */
-tried rattle_alloc(size_t size, size_t align)
+allocation rattle_alloc(size_t size, size_t align)
 {
-    return found(malloc(size != 0 ? size : align));
+    return allocation_of(malloc(size != 0 ? size : align));
 }
 
-tried rattle_realloc(void *old, size_t kept, size_t size, size_t align)
+allocation rattle_realloc(void *old, size_t kept, size_t size, size_t align)
 {
     (void)kept;
-    return found(realloc(old, size != 0 ? size : align));
+    return allocation_of(realloc(old, size != 0 ? size : align));
 }
 
 void rattle_dealloc(void *block)

@@ -1,33 +1,34 @@
-/* A picture in plain C, with which tests/library/measure_pixels.c compares: compiled with -O3 by each compiler, under the name
-   in PLAIN. */
+/* Makes a picture in plain C. tests/library/measure_pixels.c compares the library with this function. Each compiler compiles it
+   with -O3, under the name in PLAIN. */
 #include "plain_pixels.h"
 
 #include <string.h>
 
-static int most(int one, int other) { return one > other ? one : other; }
-static int least(int one, int other) { return one < other ? one : other; }
+static int max(int one, int other) { return one > other ? one : other; }
+static int min(int one, int other) { return one < other ? one : other; }
 
-/* `width` pixels from `x` on in row y of the screen: border at the top and the bottom, otherwise at both sides. */
-static void plain_row(const struct plain *it, int x, int y, int width, uint8_t *row)
+/* Writes `width` pixels of row y of the screen, from column x on. The rows at the top and the bottom are border; the other rows have
+   border at both sides. */
+static void plain_row(const struct plain *player, int x, int y, int width, uint8_t *row)
 {
-    int left = most(x, 6), right = least(x + width, 294);
+    int left = max(x, 6), right = min(x + width, 294);
     if (y < 12 || y >= 204 || left >= right) {
-        memset(row, it->border, (size_t)width);
+        memset(row, player->border, (size_t)width);
         return;
     }
-    memset(row, it->border, (size_t)(left - x));
-    memcpy(row + left - x, it->memory[y + it->v] + left + it->h, (size_t)(right - left));
-    memset(row + right - x, it->border, (size_t)(x + width - right));
+    memset(row, player->border, (size_t)(left - x));
+    memcpy(row + left - x, player->memory[y + player->v] + left + player->h, (size_t)(right - left));
+    memset(row + right - x, player->border, (size_t)(x + width - right));
 }
 
-static void plain_table(const struct plain *it, uint32_t format, uint32_t table[16])
+static void plain_table(const struct plain *player, uint32_t format, uint32_t table[16])
 {
     int k;
     for (k = 0; k < 16; k++) {
-        uint32_t red = 17u * (it->colours[k] >> 8), green = 17u * (it->colours[k] >> 4 & 15),
-                 blue = 17u * (it->colours[k] & 15);
+        uint32_t red = 17u * (player->colours[k] >> 8), green = 17u * (player->colours[k] >> 4 & 15),
+                 blue = 17u * (player->colours[k] & 15);
         uint32_t opacity = format == RIBJASPER_RGBA_LEVELS || format == RIBJASPER_BGRA_LEVELS
-                               ? 255u - (4u * it->levels[k] + it->levels[k] / 16u) : 255u;
+                               ? 255u - (4u * player->levels[k] + player->levels[k] / 16u) : 255u;
         if (format == RIBJASPER_BGRA || format == RIBJASPER_BGRA_LEVELS)
             table[k] = blue | green << 8 | red << 16 | opacity << 24;
         else if (format == RIBJASPER_RGB565)
@@ -37,17 +38,17 @@ static void plain_table(const struct plain *it, uint32_t format, uint32_t table[
     }
 }
 
-void PLAIN(const struct plain *restrict it, uint32_t format, int x, int y, int width, int height, uint8_t *restrict out,
+void PLAIN(const struct plain *restrict player, uint32_t format, int x, int y, int width, int height, uint8_t *restrict out,
            size_t stride)
 {
     uint32_t table[16];
     uint8_t row[300];
     int i, j;
     if (format != RIBJASPER_INDEXED)
-        plain_table(it, format, table);
+        plain_table(player, format, table);
     for (j = 0; j < height; j++) {
         uint8_t *restrict to = out + stride * (size_t)j;
-        plain_row(it, x, y + j, width, format == RIBJASPER_INDEXED ? to : row);
+        plain_row(player, x, y + j, width, format == RIBJASPER_INDEXED ? to : row);
         switch (format) {
         case RIBJASPER_INDEXED:
             break;

@@ -1,5 +1,6 @@
-/* A closed player in the ways of the header: at first, as a value, in lists and structs, static and not. Compiled in each
-   standard of C and C++; with STRICT without the static player that begins with the value, which strict C refuses. */
+/* Tests each way to make a closed player: as an initializer, as a value, in arrays and structs, static and automatic. It is
+   compiled with each standard of C and C++. STRICT leaves the static player out that is initialized with the value, because strict
+   C does not accept it. */
 #include "ribjasper.h"
 
 #include <stdio.h>
@@ -17,7 +18,7 @@ typedef struct holder {
 } holder;
 
 static ribjasper_player of_zeros;
-static ribjasper_player begun = RIBJASPER_CLOSED_STATIC;
+static ribjasper_player initialized = RIBJASPER_CLOSED_STATIC;
 static const ribjasper_player constant = RIBJASPER_CLOSED_STATIC;
 static holder held = { 1, RIBJASPER_CLOSED_STATIC };
 static ribjasper_player two[2] = { RIBJASPER_CLOSED_STATIC, RIBJASPER_CLOSED_STATIC };
@@ -39,19 +40,19 @@ static ribjasper_player closed(void)
 int main(void)
 {
     ribjasper_player player = RIBJASPER_CLOSED, list[2] = { IN_BRACES, IN_BRACES }, copy = closed();
-    holder holds = { 2, IN_BRACES };
+    holder local = { 2, IN_BRACES };
     int all;
     if (ribjasper_player_open(&player) != RIBJASPER_DONE || is_closed(&player))
         return 1;
     ribjasper_player_close(&player);
     player = RIBJASPER_CLOSED;
     of_zeros = RIBJASPER_CLOSED;
-    begun = RIBJASPER_CLOSED_PLAYER;
+    initialized = RIBJASPER_CLOSED_PLAYER;
     held.player = RIBJASPER_CLOSED;
     two[1] = list[1] = RIBJASPER_CLOSED;
-    all = is_closed(&player) && is_closed(&of_zeros) && is_closed(&begun) && is_closed(&constant) &&
+    all = is_closed(&player) && is_closed(&of_zeros) && is_closed(&initialized) && is_closed(&constant) &&
           is_closed(&held.player) && is_closed(&two[0]) && is_closed(&two[1]) && is_closed(&list[0]) &&
-          is_closed(&list[1]) && is_closed(&copy) && is_closed(&holds.player);
+          is_closed(&list[1]) && is_closed(&copy) && is_closed(&local.player);
 #ifndef STRICT
     all = all && is_closed(&by_value);
 #endif

@@ -5,7 +5,7 @@
 #include <stdio.h>
 #include <string.h>
 
-#define CHECK(holds) check((holds) ? 1 : 0, #holds, __LINE__)
+#define CHECK(condition) check((condition) ? 1 : 0, #condition, __LINE__)
 
 enum { BLOCKS = 4, BYTES = 96 * BLOCKS, WORDS = 4 * BLOCKS - 7, ROOM = 24 * WORDS };
 
@@ -16,10 +16,10 @@ static const uint8_t preset[24] = { 9, 1, 0x3c, 0x34, 0, 0, 0, 0, 0, 0, 0, 0, 0,
 static const uint8_t extended[24] = { 10, 1, 53, 62, 0, 0, 0, 0, 0, 0, 0, 0, 0, 0, 0, 0, 0, 0, 0, 0, 60, 14, 32, 18 };
 static const uint8_t unused[24] = { 5, 1, 24, 28, 0, 0, 0, 0, 0, 0, 0, 0, 0, 0, 0, 0, 0, 0, 0, 0, 12, 35, 2, 45 };
 
-static void check(int holds, const char *what, int line)
+static void check(int condition, const char *text, int line)
 {
-    if (!holds) {
-        printf("test_mend: line %d: %s\n", line, what);
+    if (!condition) {
+        printf("test_mend: line %d: %s\n", line, text);
         failed = 1;
     }
 }

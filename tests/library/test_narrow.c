@@ -1,17 +1,17 @@
-/* The calling conventions of Windows and of 64-bit ARM leave the unused bits of a register, and of the stack, undefined if a
-   number is narrower. So each call with numbers of 8 or 32 bits is made through a type that passes 64 bits, once with zeros
-   and once with ones above the number: the answers must be the same. */
+/* Tests that the library ignores the unused bits of numbers. If a number is narrower than a register or its place on the stack,
+   the calling conventions of Windows and of 64-bit ARM leave the other bits undefined. So each call with numbers of 8 or 32 bits
+   is made through a type that passes 64 bits, once with zeros and once with ones above the number. The results must be equal. */
 #include "ribjasper.h"
 
 #include <stdio.h>
 #include <string.h>
 
-#define CHECK(holds) check((holds) ? 1 : 0, #holds, __LINE__)
+#define CHECK(condition) check((condition) ? 1 : 0, #condition, __LINE__)
 
 #define DIRTY 0xffffffff00000000u
 #define DIRTY_BYTE 0xffffffffffffff00u
 
-/* The calls under second names, with types that pass 64 bits where the header passes 8 or 32. */
+/* The calls under other names, whose types pass 64 bits if the header passes 8 or 32. */
 #define WIDE(result, name, parameters) extern result wide_##name parameters __asm__("ribjasper_" #name)
 
 WIDE(int32_t, player_begin, (ribjasper_player *, uint64_t, uint64_t));
@@ -28,10 +28,10 @@ static uint8_t stream[200][RIBJASPER_BLOCK], packs[2][200 * RIBJASPER_BLOCK], ou
 
 static int failed;
 
-static void check(int holds, const char *what, int line)
+static void check(int condition, const char *text, int line)
 {
-    if (!holds) {
-        printf("test_narrow: line %d: %s\n", line, what);
+    if (!condition) {
+        printf("test_narrow: line %d: %s\n", line, text);
         failed = 1;
     }
 }

@@ -1,6 +1,6 @@
-/* Measures how much stack each call of the library uses. Every call runs on its own painted stack; it may touch at most LIMIT
-   bytes of it, and one that mends LIMIT_MENDING. malloc and free of the C library use that stack too. Prints the maximum. The
-   argument is an authored stream with texts, whose first 200 blocks are the lead-in. */
+/* Measures how much stack each call of the library uses, and prints the maximum. Every call runs on its own painted stack. It may
+   use at most LIMIT bytes of it; a call that mends may use LIMIT_MENDING bytes. malloc and free of the C library use this stack
+   too. The argument is an authored stream with texts, whose first 200 blocks are the lead-in. */
 #define _GNU_SOURCE
 #include "ribjasper.h"
 
@@ -25,7 +25,7 @@ static ribjasper_sheet_row sheet_rows[4];
 static ribjasper_mended_readings mended;
 static ribjasper_change change;
 static ribjasper_tally tally;
-static char in_words[RIBJASPER_ANSWER_TEXT];
+static char answer_text[RIBJASPER_ANSWER_TEXT];
 static int32_t answer;
 
 static const char sheet[] = "TITLE \"Demo\"\nFILE \"a.wav\" WAVE\nTRACK 01 AUDIO\nTITLE \"One\"\nINDEX 01 00:00:00\n";
@@ -82,7 +82,7 @@ static void feed_counted(void)
         answer = ribjasper_player_feed_counted(&other, worn + k * RIBJASPER_BLOCK, &tally);
 }
 
-static void tell_counts(void)
+static void read_counts(void)
 {
     ribjasper_counts counts;
     answer = ribjasper_player_counts(&player, &counts);
@@ -105,7 +105,7 @@ static void draw(void)
     }
 }
 
-static void look(void)
+static void read_screen(void)
 {
     uint16_t colours[RIBJASPER_COLOURS];
     uint8_t levels[RIBJASPER_COLOURS], one, two;
@@ -120,7 +120,7 @@ static void look(void)
     answer = ribjasper_player_offsets(&player, &one, &two);
 }
 
-static void look_in_formats(void)
+static void read_formats(void)
 {
     uint32_t format;
     for (format = RIBJASPER_INDEXED; format <= RIBJASPER_RGB565; format++) {
@@ -139,7 +139,7 @@ static void load(void)
     answer = ribjasper_player_load(&player, file, &byte);
 }
 
-static void single(void)
+static void single_calls(void)
 {
     static const uint8_t text[18] = { 0x80, 0, 0, 0, 'D', 'e', 'm', 'o', 0, 'O', 'n', 'e', 0, 0, 0, 0, 0x51, 0xd3 };
     static const uint8_t pause[12] = { 1, 1, 0, 0, 2, 0, 0, 0, 0, 0, 0xf0, 0xd9 };
@@ -157,7 +157,7 @@ static void single(void)
     ribjasper_block_from_planar(worn, block);
     ribjasper_block_text_packs(worn, bytes);
     answer = ribjasper_tile_weight(bytes);
-    ribjasper_answer_text(RIBJASPER_ANSWER_LATE, in_words);
+    ribjasper_answer_text(RIBJASPER_ANSWER_LATE, answer_text);
     answer = (int32_t)(ribjasper_blocks_after(1000) + ribjasper_packs_after(1000) + ribjasper_time_of_blocks(75) +
                        ribjasper_time_of_packs(300));
     answer = (int32_t)ribjasper_version();
@@ -172,10 +172,10 @@ static void convert(void)
 
 static void mend(void)
 {
-    static ribjasper_mended_readings of_any;
+    static ribjasper_mended_readings counts;
     ribjasper_mended result;
-    answer = ribjasper_mend_readings(worn, sizeof worn, 2, 0, packs, sizeof packs, pixels, sizeof pixels, &of_any);
-    answer = ribjasper_mend_stream(worn, sizeof worn, 2, 0, packs, sizeof packs, pixels, sizeof pixels, &of_any);
+    answer = ribjasper_mend_readings(worn, sizeof worn, 2, 0, packs, sizeof packs, pixels, sizeof pixels, &counts);
+    answer = ribjasper_mend_stream(worn, sizeof worn, 2, 0, packs, sizeof packs, pixels, sizeof pixels, &counts);
     answer = ribjasper_mend(worn, sizeof worn, stream, sizeof stream, 0, packs, sizeof packs, &result);
     answer = ribjasper_mend(idle, sizeof idle, worn, sizeof worn, 0, packs, sizeof packs, &result);
 }
@@ -205,7 +205,7 @@ static void texts(void)
         answer = RIBJASPER_NO_ROOM;
 }
 
-static void planned(void)
+static void make_plan(void)
 {
     ribjasper_planned result;
     const uint8_t *lines = (const uint8_t *)sheet;
@@ -232,12 +232,12 @@ static void run(void)
     call();
 }
 
-/* The number of bytes of the stack that a call touches. */
-static size_t taken_by(void (*tried)(void))
+/* The number of bytes of the stack that a call uses. */
+static size_t stack_used_by(void (*measured)(void))
 {
     size_t clean = 0;
     memset(stack, PAINT, ROOM);
-    call = tried;
+    call = measured;
     if (getcontext(&inside) != 0) {
         perror("getcontext");
         exit(1);
@@ -261,7 +261,7 @@ int main(int count, char **words)
     static const struct {
         const char *name;
         void (*call)(void);
-        int32_t answer; /* of the last call, so that none is refused at its door */
+        int32_t answer; /* of the last call; it shows that the call was not refused */
     } calls[] = {
         { "open", open_player, RIBJASPER_DONE },
         { "open another", open_other, RIBJASPER_DONE },
@@ -272,20 +272,20 @@ int main(int count, char **words)
         { "seek", seek, RIBJASPER_DONE },
         { "many planar blocks", many_planar_blocks, RIBJASPER_DONE },
         { "feed and count", feed_counted, RIBJASPER_DONE },
-        { "counts", tell_counts, RIBJASPER_DONE },
+        { "counts", read_counts, RIBJASPER_DONE },
         { "draw", draw, RIBJASPER_TOUCHES_COLOURS },
-        { "look", look, RIBJASPER_DONE },
-        { "look in formats", look_in_formats, RIBJASPER_DONE },
+        { "read the screen", read_screen, RIBJASPER_DONE },
+        { "read in each format", read_formats, RIBJASPER_DONE },
         { "save", save, RIBJASPER_DONE },
         { "load", load, RIBJASPER_DONE },
         { "copy", copy, RIBJASPER_DONE },
-        { "single things", single, RIBJASPER_VERSION },
+        { "single calls", single_calls, RIBJASPER_VERSION },
         { "convert", convert, RIBJASPER_DAMAGED },
         { "mend", mend, RIBJASPER_DAMAGED },
         { "mend readings", mend_readings, RIBJASPER_DAMAGED },
         { "survey", survey, RIBJASPER_CONVERTED },
         { "texts", texts, RIBJASPER_CONVERTED },
-        { "plan", planned, RIBJASPER_NOT_PLANNED },
+        { "plan", make_plan, RIBJASPER_NOT_PLANNED },
         { "sheet", read_sheet, RIBJASPER_CONVERTED },
         { "close", close_player, RIBJASPER_CONVERTED },
         { "close another", close_other, RIBJASPER_CONVERTED },
@@ -299,13 +299,13 @@ int main(int count, char **words)
     }
     fclose(authored);
     for (k = 0; k < sizeof stream; k++) {
-        /* Codewords of zeros with some wrong symbols, so that all ways of correction are used. */
+        /* Codewords of zeros with some wrong symbols, so that each kind of correction occurs. */
         number = number * 1664525u + 1013904223u;
         worn[k] = number >> 24 < 20 ? (uint8_t)(number >> 8) : 0;
         stream[k] = number >> 24 > 240 ? (uint8_t)(number >> 10) : 0;
     }
     for (k = 0; k < sizeof calls / sizeof calls[0]; k++) {
-        size_t bytes = taken_by(calls[k].call);
+        size_t bytes = stack_used_by(calls[k].call);
         int mends = calls[k].call == mend || calls[k].call == mend_readings;
         size_t limit = mends ? LIMIT_MENDING : LIMIT;
         if (mends)
@@ -313,16 +313,16 @@ int main(int count, char **words)
         else
             most = bytes > most ? bytes : most;
         if (answer != calls[k].answer) {
-            printf("%s answers %ld and not %ld\n", calls[k].name, (long)answer, (long)calls[k].answer);
+            printf("%s returns %ld instead of %ld\n", calls[k].name, (long)answer, (long)calls[k].answer);
             failed = 1;
         }
         if (bytes > limit) {
-            printf("%s takes %lu bytes of the stack, more than %lu\n", calls[k].name, (unsigned long)bytes,
+            printf("%s uses %lu bytes of stack, more than %lu\n", calls[k].name, (unsigned long)bytes,
                    (unsigned long)limit);
             failed = 1;
         }
     }
-    printf("a call takes %lu bytes of the stack at most, and one that mends %lu\n", (unsigned long)most,
+    printf("a call uses at most %lu bytes of stack, and a call that mends %lu\n", (unsigned long)most,
            (unsigned long)most_mending);
     return failed;
 }

@@ -1,7 +1,7 @@
 #!/bin/sh
-# Measures the use of the stack. Each call of lib/libribjasper.a runs on a painted stack and may touch 16 KiB of it, one that
-# mends 80 KiB (tests/library/test_small_stack.c), and commands of bin/ribjasper do the same with a stack of 64 KiB as with an
-# ample one. Skipped if a compiler or something that make builds is missing.
+# Measures the stack use of the library and the program. Each call of lib/libribjasper.a runs on a painted stack and may use 16 KiB
+# of it; a call that mends may use 80 KiB (tests/library/test_small_stack.c). Each command of bin/ribjasper must have the same output
+# with a stack of 64 KiB as with the default stack. Skipped if a compiler or something that make builds is missing.
 set -e
 cd "$(dirname "$0")/../.."
 command -v cc >/dev/null || { echo "small_stack: skipped, there is no cc"; exit 0; }
@@ -24,16 +24,16 @@ cc -O2 -Wall -Wextra -Werror -std=gnu99 -Iinclude tests/library/test_small_stack
 "$work/test_small_stack" "$work/authored"
 
 # A stack that is too small must be detected.
-if (ulimit -s 8 && exec bin/ribjasper check --lead-in 300 -- "$work/authored") >"$work/none" 2>&1; then
-    echo "small_stack: a limit of 8 KiB is not kept"
+if (ulimit -s 8 && exec bin/ribjasper check --lead-in 300 -- "$work/authored") >"$work/refused" 2>&1; then
+    echo "small_stack: a stack limit of 8 KiB has no effect"
     exit 1
 fi
 
-# try WORDS ..: a command does the same with a stack of 64 KiB.
+# try WORDS ..: compares the output of a command with a stack of 64 KiB and with the default stack.
 try() {
-    bin/ribjasper "$@" <"$work/authored" >"$work/ample" || true
+    bin/ribjasper "$@" <"$work/authored" >"$work/default" || true
     (ulimit -s 64 && exec bin/ribjasper "$@") <"$work/authored" >"$work/small" || true
-    [ -s "$work/ample" ] && cmp "$work/ample" "$work/small" || { echo "small_stack: $1 needs more than 64 KiB"; exit 1; }
+    [ -s "$work/default" ] && cmp "$work/default" "$work/small" || { echo "small_stack: $1 needs more than 64 KiB"; exit 1; }
 }
 try convert --lead-in 300
 try check --lead-in 300

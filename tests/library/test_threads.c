@@ -1,6 +1,6 @@
-/* Eight threads read one player at the same time, with every call that takes a const player, and each must get what one
-   thread gets. tests/library/test_threads.sh also runs it under tools that detect a write of one thread to data that another
-   one reads. */
+/* Reads one player in eight threads at the same time, with every call that takes a const player. Each thread must get the same
+   data as a single thread. tests/library/test_threads.sh also runs this program under tools that detect if one thread writes
+   data that another one reads. */
 #include "ribjasper.h"
 
 #include <pthread.h>
@@ -11,20 +11,20 @@
 #define THREADS 8
 #define PIECE 40000
 
-/* All data that the calls write about a player. */
-typedef struct look {
+/* All data that the calls return about a player. */
+typedef struct view {
     uint8_t pixels[RIBJASPER_PIXELS], picture[RIBJASPER_PICTURE], piece[PIECE], shown[PIECE];
     uint8_t file[RIBJASPER_CHECKPOINT], levels[RIBJASPER_COLOURS], border, across, down, pixel;
     uint16_t colours[RIBJASPER_COLOURS], colour;
     ribjasper_counts counts;
-} look;
+} view;
 
 static ribjasper_player player = RIBJASPER_CLOSED_STATIC;
-static look expected;
+static view expected;
 static int rounds = 100;
 
-/* Makes every call; returns how many failed. */
-static int see(look *it, ribjasper_player *other)
+/* Makes every call, and returns the number of calls that failed. */
+static int read_player(view *it, ribjasper_player *other)
 {
     int failed = 0;
     failed += ribjasper_player_screen(&player, it->pixels) != RIBJASPER_DONE;
@@ -43,9 +43,9 @@ static int see(look *it, ribjasper_player *other)
     return failed;
 }
 
-static void *looks(void *wrong)
+static void *read_repeatedly(void *wrong)
 {
-    look *it = calloc(1, sizeof *it);
+    view *it = calloc(1, sizeof *it);
     ribjasper_player other = RIBJASPER_CLOSED;
     uint8_t *pixels = malloc(RIBJASPER_PIXELS);
     int n;
@@ -54,7 +54,7 @@ static void *looks(void *wrong)
         return NULL;
     }
     for (n = 0; n < rounds; n++) {
-        *(int *)wrong += see(it, &other) != 0;
+        *(int *)wrong += read_player(it, &other) != 0;
         *(int *)wrong += memcmp(it, &expected, sizeof expected) != 0;
         *(int *)wrong += ribjasper_player_screen(&other, pixels) != RIBJASPER_DONE;
         *(int *)wrong += memcmp(pixels, expected.pixels, RIBJASPER_PIXELS) != 0;
@@ -90,16 +90,16 @@ int main(int count, char **words)
         if (ribjasper_player_feed(&player, block) != RIBJASPER_DONE || ribjasper_player_draw(&player, pack) != RIBJASPER_DONE)
             return 1;
     }
-    if (see(&expected, &other) != 0)
+    if (read_player(&expected, &other) != 0)
         return 1;
     for (k = 0; k < THREADS; k++)
-        if (pthread_create(&threads[k], NULL, looks, &wrong[k]) != 0)
+        if (pthread_create(&threads[k], NULL, read_repeatedly, &wrong[k]) != 0)
             return 1;
     for (k = 0; k < THREADS; k++)
         all += pthread_join(threads[k], NULL) != 0 || wrong[k] != 0;
     ribjasper_player_close(&other);
     ribjasper_player_close(&player);
     if (all != 0)
-        printf("test_threads: %d of %d threads saw something else\n", all, THREADS);
+        printf("test_threads: %d of %d threads got other data\n", all, THREADS);
     return all != 0;
 }

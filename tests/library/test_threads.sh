@@ -1,6 +1,6 @@
 #!/bin/sh
-# Eight threads read one player at the same time: without a tool, with ThreadSanitizer in the program (which sees the memory
-# that the program passes to the library), and under DRD, which sees every read and write of the library too.
+# Reads one player in eight threads at the same time. It runs without a tool, with ThreadSanitizer in the program, and under DRD.
+# ThreadSanitizer sees the memory that the program passes to the library; DRD sees each read and write of the library too.
 set -e
 cd "$(dirname "$0")/../.."
 [ -f lib/libribjasper.a ] || { echo "test_threads: skipped, there is no lib/libribjasper.a (make library)"; exit 0; }
@@ -9,13 +9,13 @@ trap 'rm -rf "$work"' EXIT
 strict="-O1 -g -Wall -Wextra -Wpedantic -Werror -Iinclude"
 cc $strict tests/library/test_threads.c lib/libribjasper.a -lpthread -o "$work/threads"
 "$work/threads"
-seen="as they are"
-if clang -fsanitize=thread $strict tests/library/test_threads.c lib/libribjasper.a -lpthread -o "$work/sanitized" 2>"$work/told"; then
+runs="without a tool"
+if clang -fsanitize=thread $strict tests/library/test_threads.c lib/libribjasper.a -lpthread -o "$work/sanitized" 2>"$work/errors"; then
     setarch "$(uname -m)" -R "$work/sanitized" 20
-    seen="$seen, under ThreadSanitizer"
+    runs="$runs, under ThreadSanitizer"
 fi
 if command -v valgrind >/dev/null; then
     valgrind -q --tool=drd --error-exitcode=3 --check-stack-var=yes "$work/threads" 1
-    seen="$seen, under DRD"
+    runs="$runs, under DRD"
 fi
-echo "test_threads: eight threads look at one player at the same time and see the same: $seen"
+echo "test_threads: eight threads read one player at the same time and get the same data: $runs"

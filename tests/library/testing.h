@@ -1,5 +1,5 @@
-/* What the tests of the library share: CHECK, which reports a failed test, and a heap that counts. The linker replaces malloc,
-   realloc and free by the functions below (-Wl,--wrap), so that requests can be refused and allocations counted. */
+/* Shared code of the library tests: CHECK, which reports a failed check, and a heap that counts its blocks. The linker replaces
+   malloc, realloc and free with the functions below (-Wl,--wrap), so that a test can refuse requests and count blocks. */
 #ifndef RIBJASPER_TESTING_H
 #define RIBJASPER_TESTING_H
 
@@ -7,9 +7,10 @@
 #include <stdlib.h>
 #include <string.h>
 
-#define CHECK(holds) check((holds) ? 1 : 0, #holds, __FILE__, __LINE__)
+#define CHECK(condition) check((condition) ? 1 : 0, #condition, __FILE__, __LINE__)
 
 static int failed;
+/* The number of requests so far, the number of the request that fails, or -1, and the number of allocated blocks. */
 static long requests;
 static long refused = -1;
 static long held;
@@ -47,10 +48,10 @@ void __wrap_free(void *at)
     __real_free(at);
 }
 
-static void check(int holds, const char *what, const char *where, int line)
+static void check(int condition, const char *text, const char *file, int line)
 {
-    if (!holds) {
-        printf("%s: line %d: %s\n", where, line, what);
+    if (!condition) {
+        printf("%s: line %d: %s\n", file, line, text);
         failed = 1;
     }
 }
