@@ -1,13 +1,12 @@
 #!/bin/sh
-# Tests lib/libribjasper.a from programs in C. Builds examples/player.c with it, as C and as C++, and compares its screens
-# with those of the command `screen`, byte for byte, at ten places of the stream of the tour: fed as blocks and drawn as
-# packs. A stream with twenty lost blocks must make a difference. Runs tests/library/test_library.c, test_mend.c,
-# test_plan.c, test_desk_calls.c, test_pixels.c, test_seeking.c, test_parity.c and test_sheets.c, and all of these once
-# with the address sanitizer if that is available. tests/library/test_closed.c tests closed players,
-# tests/library/test_given_back.c counts what the calls allocate and free, and tests/library/test_threads.sh reads one
-# player in eight threads. Skipped if a compiler or something that make builds is missing. With the argument `measure` it
-# also prints how many blocks per second the player processes, the time of a block and of a pack, one by one and in one
-# call, and the time of pictures beside plain C.
+# Tests lib/libribjasper.a from programs in C. Builds examples/player.c with it, as C and as C++, and compares its screens with
+# those of the command `screen`, byte for byte, at ten blocks of the stream of the tour: fed as blocks and drawn as packs. The
+# screens of a stream with twenty lost blocks must differ. Runs tests/library/test_library.c, test_mend.c, test_plan.c,
+# test_desk_calls.c, test_pixels.c, test_seeking.c, test_parity.c and test_sheets.c. If the address sanitizer is available, each of
+# these also runs with it. tests/library/test_closed.c tests closed players, tests/library/test_given_back.c counts what the calls
+# allocate and free, and tests/library/test_threads.sh reads one player in eight threads. Skipped if a compiler or something that
+# make builds is missing. With the argument `measure` it also prints how many blocks per second the player processes, the time of
+# a block and of a pack (with a call for each, and with a call for all), and the time of a picture compared with plain C.
 set -e
 cd "$(dirname "$0")/../.."
 top=$PWD
@@ -68,16 +67,16 @@ mkdir cxx drawn
 failed=0
 for blocks in $moments; do
     time=$(printf '%02d:%02d:%02d' $((blocks / 4500)) $((blocks / 75 % 60)) $((blocks % 75)))
-    "$top/bin/ribjasper" screen --lead-in 0 --at "$time" <stream >wanted.ppm
-    if cmp wanted.ppm "$blocks.ppm" && cmp wanted.ppm "cxx/$blocks.ppm" &&
-        cmp wanted.ppm "drawn/$((4 * blocks - 7)).ppm"; then
+    "$top/bin/ribjasper" screen --lead-in 0 --at "$time" <stream >expected.ppm
+    if cmp expected.ppm "$blocks.ppm" && cmp expected.ppm "cxx/$blocks.ppm" &&
+        cmp expected.ppm "drawn/$((4 * blocks - 7)).ppm"; then
         echo "compare_player: the screens at $time are equal"
     else
         echo "compare_player: the screens at $time differ"
         failed=1
     fi
 done
-# Programs that were compiled with the header of 1.1.0 run with this library.
+# Programs that were compiled with the header of 1.1.0 must run with this library.
 older="-O2 -Wall -Wextra -Werror -std=c99 -I$top/tests/library/older"
 cc $older "$top/examples/player.c" -L"$top/lib" -lribjasper -o player_of_older
 cc $older "$top/tests/library/test_library.c" "$top/lib/libribjasper.a" $wrap -o test_library_of_older
@@ -85,9 +84,9 @@ cc $older "$top/tests/library/test_plan.c" "$top/lib/libribjasper.a" $wrap -o te
 mkdir older
 if (cd older && LD_LIBRARY_PATH=$top/lib ../player_of_older $moments <../stream) && ./test_library_of_older >/dev/null &&
     ./test_plan_of_older >/dev/null && (for blocks in $moments; do cmp $blocks.ppm older/$blocks.ppm || exit 1; done); then
-    echo "compare_player: programs that were made with 1.1.0 run, and their screens are equal"
+    echo "compare_player: programs that were compiled for 1.1.0 run, and their screens are equal"
 else
-    echo "compare_player: programs that were made with 1.1.0 do not run as they did" >&2
+    echo "compare_player: programs that were compiled for 1.1.0 fail or show other screens" >&2
     failed=1
 fi
 mkdir broken
@@ -95,29 +94,29 @@ mkdir broken
 (cd broken && ../player 449 777 <../shorter)
 for blocks in 449 777; do
     if cmp -s $blocks.ppm broken/$blocks.ppm; then
-        echo "compare_player: that blocks are lost is not noticed at $blocks" >&2
+        echo "compare_player: the loss of blocks is not detected at block $blocks" >&2
         failed=1
     fi
 done
 sanitize="-g -fsanitize=address -fno-omit-frame-pointer"
 echo 'int main(void) { return 0; }' >empty.c
 if cc $sanitize empty.c -o empty 2>/dev/null && ./empty 2>/dev/null; then
-    cc $flags $sanitize -std=c99 "$top/examples/player.c" "$top/lib/libribjasper.a" -o player_watched
-    cc $flags $sanitize -std=c99 "$top/tests/library/test_library.c" "$top/lib/libribjasper.a" $wrap -o test_watched
-    cc $flags $sanitize -std=c99 "$top/tests/library/test_mend.c" "$top/lib/libribjasper.a" -o test_mend_watched
-    cc $flags $sanitize -std=c99 "$top/tests/library/test_plan.c" "$top/lib/libribjasper.a" $wrap -o test_plan_watched
-    cc $flags $sanitize -std=c99 "$top/tests/library/test_desk_calls.c" "$top/lib/libribjasper.a" $wrap -o test_desk_watched
-    ./test_desk_watched scratched 300 scratched.check scratched.text >/dev/null
+    cc $flags $sanitize -std=c99 "$top/examples/player.c" "$top/lib/libribjasper.a" -o player_sanitized
+    cc $flags $sanitize -std=c99 "$top/tests/library/test_library.c" "$top/lib/libribjasper.a" $wrap -o test_sanitized
+    cc $flags $sanitize -std=c99 "$top/tests/library/test_mend.c" "$top/lib/libribjasper.a" -o test_mend_sanitized
+    cc $flags $sanitize -std=c99 "$top/tests/library/test_plan.c" "$top/lib/libribjasper.a" $wrap -o test_plan_sanitized
+    cc $flags $sanitize -std=c99 "$top/tests/library/test_desk_calls.c" "$top/lib/libribjasper.a" $wrap -o test_desk_sanitized
+    ./test_desk_sanitized scratched 300 scratched.check scratched.text >/dev/null
     for name in test_pixels test_seeking test_parity test_sheets; do
-        cc $flags $sanitize -std=c99 "$top/tests/library/$name.c" "$top/lib/libribjasper.a" $wrap -o ${name}_watched
-        ./${name}_watched stream >/dev/null
+        cc $flags $sanitize -std=c99 "$top/tests/library/$name.c" "$top/lib/libribjasper.a" $wrap -o ${name}_sanitized
+        ./${name}_sanitized stream >/dev/null
     done
-    mkdir watched
-    (cd watched && ../player_watched $moments <../stream && ../test_watched >/dev/null && ../test_mend_watched >/dev/null &&
-        ../test_plan_watched >/dev/null)
-    echo "compare_player: the address sanitizer finds nothing"
+    mkdir sanitized
+    (cd sanitized && ../player_sanitized $moments <../stream && ../test_sanitized >/dev/null && ../test_mend_sanitized >/dev/null &&
+        ../test_plan_sanitized >/dev/null)
+    echo "compare_player: the address sanitizer finds no error"
 else
-    echo "compare_player: no address sanitizer is there"
+    echo "compare_player: the address sanitizer is skipped, it is not installed"
 fi
 if [ "$1" = measure ]; then
     ./player -m <stream
@@ -128,7 +127,7 @@ if [ "$1" = measure ]; then
     ./measure_feeding stream file.cdg
     ./measure_feeding random.raw file.cdg
     command -v gcc >/dev/null && command -v clang >/dev/null ||
-        { echo "compare_player: pixels are not measured, for want of gcc or clang"; exit "$failed"; }
+        { echo "compare_player: pixels are not measured, there is no gcc or no clang"; exit "$failed"; }
     for compiler in gcc clang; do
         $compiler -O3 -Wall -Wextra -Werror -I"$top/include" -DPLAIN=plain_by_$compiler -c "$top/tests/library/plain_pixels.c" \
             -o by_$compiler.o

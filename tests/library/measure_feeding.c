@@ -1,6 +1,6 @@
-/* Measures the time of the library for a block or a pack, with one call for each and with one call for all. It reads the
-   blocks of a raw stream and the packs of a .cdg file, and feeds or draws all of them in many rounds, in each way in turn.
-   For each way it prints the least and the median time; both ways must show the same screen.
+/* Measures how long the library needs for a block or a pack, with one call for each and with one call for all. It reads the
+   blocks of a raw stream and the packs of a .cdg file. In many rounds, it feeds or draws all of them in each way in turn. For each
+   way it prints the minimum and the median time. Both ways must show the same screen.
 
    cc -O2 -Iinclude tests/library/measure_feeding.c lib/libribjasper.a -o measure_feeding
    ./measure_feeding stream.raw packs.cdg
@@ -28,7 +28,7 @@ static double now(void)
     return (double)at.tv_sec * 1e9 + (double)at.tv_nsec;
 }
 
-static void refuse(const char *why)
+static void fail(const char *why)
 {
     fprintf(stderr, "measure_feeding: %s\n", why);
     exit(1);
@@ -40,11 +40,11 @@ static uint8_t *read_units(const char *name, size_t unit, size_t *count)
     uint8_t *bytes;
     long size;
     if (file == NULL || fseek(file, 0, SEEK_END) != 0 || (size = ftell(file)) < 0 || fseek(file, 0, SEEK_SET) != 0)
-        refuse(name);
+        fail(name);
     *count = (size_t)size / unit;
     bytes = malloc(*count * unit + 1);
     if (bytes == NULL || fread(bytes, unit, *count, file) != *count)
-        refuse(name);
+        fail(name);
     fclose(file);
     return bytes;
 }
@@ -54,14 +54,14 @@ static void feed(void)
     size_t n;
     for (n = 0; n < block_count; n++)
         if (ribjasper_player_feed(&player, blocks + RIBJASPER_BLOCK * n) != RIBJASPER_DONE)
-            refuse("feed");
+            fail("feed");
 }
 
 static void feed_all(void)
 {
     ribjasper_change change;
     if (ribjasper_player_feed_all(&player, blocks, block_count, &change) != RIBJASPER_DONE)
-        refuse("feed_all");
+        fail("feed_all");
 }
 
 static void draw(void)
@@ -69,14 +69,14 @@ static void draw(void)
     size_t n;
     for (n = 0; n < pack_count; n++)
         if (ribjasper_player_draw(&player, packs + RIBJASPER_PACK * n) != RIBJASPER_DONE)
-            refuse("draw");
+            fail("draw");
 }
 
 static void draw_all(void)
 {
     ribjasper_change change;
     if (ribjasper_player_draw_all(&player, packs, pack_count, &change) != RIBJASPER_DONE)
-        refuse("draw_all");
+        fail("draw_all");
 }
 
 static const struct way {
@@ -84,7 +84,7 @@ static const struct way {
     void (*run)(void);
 } ways[WAYS] = { { "feed", feed }, { "feed_all", feed_all }, { "draw", draw }, { "draw_all", draw_all } };
 
-static int by_size(const void *one, const void *other)
+static int by_value(const void *one, const void *other)
 {
     double a = *(const double *)one, b = *(const double *)other;
     return (a > b) - (a < b);
@@ -110,17 +110,17 @@ int main(int count, char **words)
         for (way = 0; way < WAYS; way++) {
             double start;
             if (ribjasper_player_begin(&player, RIBJASPER_RAW, 0) != RIBJASPER_DONE)
-                refuse("begin");
+                fail("begin");
             start = now();
             ways[way].run();
             times[way][round] = (now() - start) / (double)(way < 2 ? block_count : pack_count);
             if (ribjasper_player_screen(&player, screens[way]) != RIBJASPER_DONE)
-                refuse("screen");
+                fail("screen");
         }
     if (memcmp(screens[0], screens[1], RIBJASPER_PIXELS) != 0 || memcmp(screens[2], screens[3], RIBJASPER_PIXELS) != 0)
-        refuse("the two ways show different screens");
+        fail("the two ways show different screens");
     for (way = 0; way < WAYS; way++) {
-        qsort(times[way], ROUNDS, sizeof times[way][0], by_size);
+        qsort(times[way], ROUNDS, sizeof times[way][0], by_value);
         printf("%-9s %8.1f ns (median %.1f)", ways[way].name, times[way][0], times[way][ROUNDS / 2]);
         if (way % 2 == 1)
             printf(", %.2f of one call each (median %.2f)", times[way][0] / times[way - 1][0],

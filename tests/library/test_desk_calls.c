@@ -1,7 +1,7 @@
-/* The calls that describe a stream and its lead-in, and the tally of a stream that is fed, on streams that are made here: the
-   expected values come from docs/FORMATS.md. With three arguments (a stream, the number of its lead-in blocks, and the output
-   of `check` followed by that of `text`), the sums of the rows, a tally and the lines are compared with the program.
-   Linked with a heap that counts (testing.h). */
+/* Tests the calls that describe a stream and its lead-in, and the tally of a stream that is fed. The streams are made here, and the
+   expected values come from docs/FORMATS.md. With four arguments (a stream, the number of its lead-in blocks, the output of `check`
+   and that of `text`), the sums of the rows, a tally and the lines are also compared with the program. Linked with a heap that
+   counts (testing.h). */
 #include "ribjasper.h"
 
 #include <stddef.h>
@@ -259,7 +259,7 @@ static void lead_ins(void)
 }
 
 /* The longest lines of a lead-in: all packs except the three size packs have the kind with the longest name, the string of the
-   album has no byte that is printed unchanged, and the strings of 99 tracks are tabs, each of which means the previous
+   album has no byte that is printed unchanged, and the string of each of the 99 tracks is a tab, which means the previous
    string. */
 static void longest_texts(void)
 {
@@ -308,8 +308,8 @@ static uint8_t *read_file(const char *name, size_t *length)
     return bytes;
 }
 
-/* A tally of a player that is fed block by block: the same numbers as in the rows, printed as `check` prints them. */
-static void tally_as_the_program_says(const uint8_t *stream, size_t blocks, uint32_t lead_in, const char *wanted)
+/* Feeds a player block by block, and compares its tally with the output of `check`. */
+static void tally_as_the_program_says(const uint8_t *stream, size_t blocks, uint32_t lead_in, const char *expected)
 {
     ribjasper_player player = RIBJASPER_CLOSED;
     ribjasper_tally tally, kept;
@@ -337,7 +337,7 @@ static void tally_as_the_program_says(const uint8_t *stream, size_t blocks, uint
     }
     sprintf(lines, "clean %lu\none %lu\ntwo %lu\nbad %lu\n", (unsigned long)tally.clean, (unsigned long)tally.one,
             (unsigned long)tally.two, (unsigned long)tally.bad);
-    at = strstr(wanted, lines);
+    at = strstr(expected, lines);
     sprintf(lines, "q-good %lu\nq-bad %lu\n", (unsigned long)tally.frames, (unsigned long)tally.bad_frames);
     CHECK(last > 0 && at != NULL && strstr(at, lines) != NULL);
     ribjasper_player_close(&player);
@@ -378,12 +378,12 @@ static void tallies(void)
     CHECK(held == before);
 }
 
-/* The sums of the rows equal the output of `check`, and the lines that of `text`. */
+/* Compares the sums of the rows with the output of `check`, and the lines with the output of `text`. */
 static void as_the_program_says(const char *stream_name, uint32_t lead_in, const char *check_name, const char *text_name)
 {
     size_t length, check_length, text_length;
     uint8_t *stream = read_file(stream_name, &length);
-    uint8_t *wanted = read_file(check_name, &check_length), *text = read_file(text_name, &text_length);
+    uint8_t *expected = read_file(check_name, &check_length), *text = read_file(text_name, &text_length);
     ribjasper_row *rows = (ribjasper_row *)malloc((length / 96 + 1) * sizeof *rows);
     uint8_t *out = (uint8_t *)malloc(text_length + 1);
     ribjasper_surveyed result = { 0, 0 };
@@ -400,17 +400,17 @@ static void as_the_program_says(const char *stream_name, uint32_t lead_in, const
         sums[4] += rows[b].q <= RIBJASPER_Q_OTHER;
         sums[5] += rows[b].q > RIBJASPER_Q_OTHER;
     }
-    wanted[check_length] = 0;
+    expected[check_length] = 0;
     sprintf(lines, "clean %lu\none %lu\ntwo %lu\nbad %lu\n", sums[0], sums[1], sums[2], sums[3]);
-    at = strstr((const char *)wanted, lines);
+    at = strstr((const char *)expected, lines);
     CHECK(result.blocks > 0 && at != NULL);
     sprintf(lines, "q-good %lu\nq-bad %lu\n", sums[4], sums[5]);
     CHECK(at != NULL && strstr(at, lines) != NULL);
     CHECK(ribjasper_texts(stream, length, RIBJASPER_RAW, lead_in, out, text_length, &listed) == RIBJASPER_CONVERTED);
     CHECK(listed.bytes == text_length && memcmp(out, text, text_length) == 0);
-    tally_as_the_program_says(stream, length / 96, lead_in, (const char *)wanted);
+    tally_as_the_program_says(stream, length / 96, lead_in, (const char *)expected);
     free(stream);
-    free(wanted);
+    free(expected);
     free(text);
     free(rows);
     free(out);
@@ -427,6 +427,6 @@ int main(int count, char **words)
     if (count == 5)
         as_the_program_says(words[1], (uint32_t)strtoul(words[2], NULL, 10), words[3], words[4]);
     if (!failed)
-        printf("test_desk_calls: each block's row, each tally and each lead-in's lines are as they should be\n");
+        printf("test_desk_calls: the rows of blocks, tallies and lines of lead-ins are correct\n");
     return failed;
 }

@@ -1,14 +1,14 @@
-/* The calls free all memory that they allocate: over thousands of sheets and scripts that are refused or planned, of players
-   that are saved or refused, and of files that are no checkpoints. Linked with a heap that counts (testing.h).
+/* Tests that the calls free all memory that they allocate. The inputs are thousands of sheets, scripts, players and checkpoints,
+   both accepted and refused. Linked with a heap that counts (testing.h).
 
    test_given_back SHEET SCRIPT STREAM */
 #include "ribjasper.h"
 
 #include "testing.h"
 
-#define MOST 100000
+#define MAX_SIZE 100000
 
-static uint8_t sheet[MOST], script[MOST], stream[96 * 2000], out[1 << 20];
+static uint8_t sheet[MAX_SIZE], script[MAX_SIZE], stream[96 * 2000], out[1 << 20];
 static ribjasper_plan_row rows[64];
 static ribjasper_sheet_row sheet_rows[64];
 
@@ -21,7 +21,7 @@ static size_t read_file(const char *name, uint8_t *to, size_t room)
     return count;
 }
 
-/* Each prefix of a text, and the text with each byte changed in turn. */
+/* Reads each prefix of the texts, and the texts with each byte changed in turn. */
 static void texts(size_t sheet_size, size_t script_size)
 {
     long refusals = 0, calls = 0;
@@ -87,7 +87,7 @@ static void players(void)
     CHECK(held == 0);
 }
 
-/* The texts of a lead-in with changed bytes: listed or refused. */
+/* Lists the texts of a lead-in with changed bytes. */
 static void lead_ins(size_t blocks)
 {
     ribjasper_listed listed;
@@ -108,14 +108,14 @@ int main(int argc, char **argv)
     size_t sheet_size, script_size, blocks;
     if (argc != 4)
         return 2;
-    sheet_size = read_file(argv[1], sheet, MOST);
-    script_size = read_file(argv[2], script, MOST);
+    sheet_size = read_file(argv[1], sheet, MAX_SIZE);
+    script_size = read_file(argv[2], script, MAX_SIZE);
     blocks = read_file(argv[3], stream, sizeof stream) / 96;
     CHECK(sheet_size > 0 && script_size > 0 && blocks > 1000);
     texts(sheet_size, script_size);
     players();
     lead_ins(blocks);
     if (!failed)
-        printf("test_given_back: %ld requests of memory, and all of it is given back\n", requests);
+        printf("test_given_back: %ld memory requests, and all memory is freed\n", requests);
     return failed;
 }

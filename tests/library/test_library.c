@@ -1,4 +1,4 @@
-/* Each call of the library with values from docs/FORMATS.md and from the standards that it names, and the refusals of each
+/* Tests each call of the library, with values from docs/FORMATS.md and from the standards that it cites, and the refusals of each
    call. Linked with a heap that counts (testing.h). */
 #include "ribjasper.h"
 
@@ -13,7 +13,7 @@ static int all_are(const uint8_t *bytes, size_t count, uint8_t value)
     return 1;
 }
 
-static void single_things(void)
+static void single_calls(void)
 {
     static const uint8_t preset[24] = { 9, 1, 0x3c, 0x34, 0, 0, 0, 0, 0, 0, 0, 0, 0, 0, 0, 0, 0, 0, 0, 0, 13, 7, 42, 32 };
     static const uint8_t text[18] = { 0x80, 0, 0, 0, 'D', 'e', 'm', 'o', 0, 'O', 'n', 'e', 0, 0, 0, 0, 0x51, 0xd3 };
@@ -188,7 +188,7 @@ static void edges_of_streams(void)
     }
 }
 
-static void draws(ribjasper_player *player, uint8_t code, const uint8_t content[16])
+static void draw_instruction(ribjasper_player *player, uint8_t code, const uint8_t content[16])
 {
     uint8_t pack[24] = { 9, 0 };
     pack[1] = code;
@@ -209,9 +209,9 @@ static void drawn_packs(void)
     CHECK(ribjasper_player_open(&player) == RIBJASPER_DONE && ribjasper_player_open(&second) == RIBJASPER_DONE);
     CHECK(ribjasper_player_picture(&player, picture) == RIBJASPER_DONE && all_are(picture, sizeof picture, 0));
     /* Two tiles in the lower corner, moved by one tile and by the greatest offsets. */
-    draws(&player, 6, seven);
-    draws(&player, 6, five);
-    draws(&player, 24, scroll);
+    draw_instruction(&player, 6, seven);
+    draw_instruction(&player, 6, five);
+    draw_instruction(&player, 24, scroll);
     CHECK(ribjasper_player_offsets(&player, &across, &down) == RIBJASPER_DONE && across == 5 && down == 11);
     CHECK(ribjasper_player_screen(&player, pixels) == RIBJASPER_DONE);
     for (y = 0; y < RIBJASPER_HEIGHT; y++)
@@ -221,9 +221,9 @@ static void drawn_packs(void)
     CHECK(ribjasper_player_pixel(&player, 289, 193, &pixel) == RIBJASPER_DONE && pixel == 7);
     CHECK(ribjasper_player_pixel(&player, 300, 0, &pixel) == RIBJASPER_REFUSED && pixel == 7);
     CHECK(ribjasper_player_pixel(&player, 0, 216, &pixel) == RIBJASPER_REFUSED && pixel == 7);
-    draws(&player, 2, border);
-    draws(&player, 28, levels);
-    draws(&player, 30, colours);
+    draw_instruction(&player, 2, border);
+    draw_instruction(&player, 28, levels);
+    draw_instruction(&player, 30, colours);
     CHECK(ribjasper_player_border(&player, &pixel) == RIBJASPER_DONE && pixel == 3);
     CHECK(ribjasper_player_levels(&player, seen) == RIBJASPER_DONE && memcmp(seen, levels, 16) == 0);
     CHECK(ribjasper_player_colours(&player, table) == RIBJASPER_DONE);
@@ -286,7 +286,7 @@ static void rectangles(void)
     size_t room;
     long i, j, wrong = 0;
     CHECK(ribjasper_player_open(&player) == RIBJASPER_DONE);
-    draws(&player, 6, tile);
+    draw_instruction(&player, 6, tile);
     CHECK(ribjasper_player_screen(&player, pixels) == RIBJASPER_DONE);
     memset(part, 7, sizeof part);
     for (room = 0; room < 20 * 10 + 9; room++)
@@ -310,8 +310,8 @@ static void rectangles(void)
     CHECK(ribjasper_player_rect(&player, 0, 0, 1, 1, part, 1, 1) == RIBJASPER_REFUSED && held == 0);
 }
 
-/* A player draws as long as it is fed: here a tile after more blocks than a program can have. Packs that are drawn in
-   between do not change the stream. */
+/* A player draws as long as it is fed, even after more blocks than a program can have. Packs that are drawn in between do not
+   change the stream. */
 static void long_streams(void)
 {
     static const uint8_t five[24] = { 9, 1, 0, 0, 5 };
@@ -349,7 +349,7 @@ static void long_streams(void)
     CHECK(held == 0);
 }
 
-/* A player that is restored, and one that continues as another: from there it shows and gathers the same. */
+/* A restored player and a copied player show the same as the original from there on, and complete the same words. */
 static void saved_players(void)
 {
     static const uint8_t five[16] = { 5 };
@@ -372,7 +372,7 @@ static void saved_players(void)
     CHECK(ribjasper_player_begin(&player, RIBJASPER_RAW, 1) == RIBJASPER_DONE);
     CHECK(ribjasper_player_feed(&player, second) == RIBJASPER_DONE);
     CHECK(ribjasper_player_feed(&player, first) == RIBJASPER_DONE);
-    draws(&player, 1, five);
+    draw_instruction(&player, 1, five);
     number = requests;
     CHECK(ribjasper_player_save(&player, file) == RIBJASPER_DONE && requests == number + 1 && held == 2);
     CHECK(memcmp(file, "CDGSAVE1", 8) == 0 && all_are(file + 8, 7, 0) && file[15] == 1 && file[19] == 1);
@@ -387,7 +387,7 @@ static void saved_players(void)
     memset(packs, 0, sizeof packs);
     CHECK(ribjasper_player_take(&back, second, packs) == 1 && packs[0].wrong == -1 && packs[0].symbols[4] == 1);
     CHECK(ribjasper_player_save(&back, file) == RIBJASPER_DONE && memcmp(file, again, sizeof file) == 0);
-    /* A copy gathers the same, and does not change with the original. */
+    /* A copy completes the same words, and does not change with the original. */
     CHECK(ribjasper_player_begin(&back, RIBJASPER_RAW, 0) == RIBJASPER_DONE);
     CHECK(ribjasper_player_feed(&back, first) == RIBJASPER_DONE);
     number = requests;
@@ -395,7 +395,7 @@ static void saved_players(void)
     CHECK(ribjasper_player_begin(&back, RIBJASPER_PACKS, 0) == RIBJASPER_DONE);
     CHECK(ribjasper_player_pixel(&player, 6, 12, other) == RIBJASPER_DONE && other[0] == 0);
     CHECK(ribjasper_player_take(&player, second, packs) == 1 && packs[0].wrong == -1);
-    /* An invalid file is refused at its first byte, and a player of packs at once, before any memory is allocated. */
+    /* An invalid file is refused with its first wrong byte, and a player of packs at once, before any memory is allocated. */
     number = refused = requests;
     CHECK(ribjasper_player_save(&back, again) == RIBJASPER_REFUSED);
     file[200] = 16;
@@ -427,8 +427,8 @@ static void saved_settings(void)
     memset(block, 1, sizeof block);
     CHECK(ribjasper_player_open(&player) == RIBJASPER_DONE && ribjasper_player_open(&loaded) == RIBJASPER_DONE);
     CHECK(ribjasper_player_open(&copied) == RIBJASPER_DONE);
-    draws(&player, 24, scroll);
-    draws(&player, 28, levels);
+    draw_instruction(&player, 24, scroll);
+    draw_instruction(&player, 28, levels);
     CHECK(ribjasper_player_save(&player, file) == RIBJASPER_DONE);
     CHECK(ribjasper_player_load(&loaded, file, &byte) == RIBJASPER_DONE && byte == 7);
     CHECK(ribjasper_player_copy(&player, &copied) == RIBJASPER_DONE);
@@ -502,7 +502,7 @@ static void taken_blocks(void)
     CHECK(held == 0);
 }
 
-/* A closed player refuses every call, and nothing is written; an open player that gets no memory has none. */
+/* A closed player refuses every call, and nothing is written. If `open` gets no memory, the player remains closed. */
 static void closed_players(void)
 {
     static uint8_t bytes[RIBJASPER_PICTURE];
@@ -543,7 +543,7 @@ static void closed_players(void)
 
 int main(void)
 {
-    single_things();
+    single_calls();
     q_frames();
     entries();
     whole_streams();
@@ -558,6 +558,6 @@ int main(void)
     long_streams();
     closed_players();
     if (!failed)
-        printf("test_library: each call gives what its row says\n");
+        printf("test_library: each call has its expected result\n");
     return failed;
 }

@@ -1,5 +1,5 @@
-/* Counting and writing the parity of packs. The codewords were computed by another program (tests/peers/reckon_rows.py). A file
-   whose parity was removed is sealed to the original, by ribjasper_packs_seal and by a player of packs that draws it. */
+/* Tests the calls that count and write the parity of packs. The codewords were computed by another program
+   (tests/peers/reckon_rows.py). ribjasper_packs_seal must restore a parity that was removed, so that a player of packs draws them. */
 #include "ribjasper.h"
 #include "testing.h"
 
@@ -92,7 +92,7 @@ static void test_many(void)
 /* Blocks of packs without parity draw nothing; sealed, they draw what ribjasper_player_draw_all draws. */
 static void test_player(void)
 {
-    static uint8_t packs[RIBJASPER_PACK * PACKS], wanted[RIBJASPER_PICTURE], shown[RIBJASPER_PICTURE], black[RIBJASPER_PICTURE];
+    static uint8_t packs[RIBJASPER_PACK * PACKS], expected[RIBJASPER_PICTURE], shown[RIBJASPER_PICTURE], black[RIBJASPER_PICTURE];
     ribjasper_player player = RIBJASPER_CLOSED;
     ribjasper_change change;
     ribjasper_counts counts;
@@ -109,7 +109,7 @@ static void test_player(void)
     CHECK(ribjasper_player_open(&player) == RIBJASPER_DONE);
     CHECK(ribjasper_player_picture(&player, black) == RIBJASPER_DONE);
     CHECK(ribjasper_player_draw_all(&player, packs, PACKS, &change) == RIBJASPER_DONE);
-    CHECK(ribjasper_player_picture(&player, wanted) == RIBJASPER_DONE && memcmp(wanted, black, sizeof black) != 0);
+    CHECK(ribjasper_player_picture(&player, expected) == RIBJASPER_DONE && memcmp(expected, black, sizeof black) != 0);
     CHECK(ribjasper_player_begin(&player, RIBJASPER_PACKS, 0) == RIBJASPER_DONE);
     CHECK(ribjasper_player_feed_all(&player, packs, PACKS / 4, &change) == RIBJASPER_DONE);
     CHECK(ribjasper_player_picture(&player, shown) == RIBJASPER_DONE && memcmp(shown, black, sizeof black) == 0);
@@ -117,7 +117,7 @@ static void test_player(void)
     ribjasper_packs_seal(packs, PACKS);
     CHECK(ribjasper_player_begin(&player, RIBJASPER_PACKS, 0) == RIBJASPER_DONE);
     CHECK(ribjasper_player_feed_all(&player, packs, PACKS / 4, &change) == RIBJASPER_DONE);
-    CHECK(ribjasper_player_picture(&player, shown) == RIBJASPER_DONE && memcmp(shown, wanted, sizeof wanted) == 0);
+    CHECK(ribjasper_player_picture(&player, shown) == RIBJASPER_DONE && memcmp(shown, expected, sizeof expected) == 0);
     CHECK(ribjasper_player_counts(&player, &counts) == RIBJASPER_DONE && counts.bad == 0);
     ribjasper_player_close(&player);
 }

@@ -1,31 +1,31 @@
-/* Pixels in each format, reported changes, many blocks and packs in one call, counts, and a player that is copied to itself:
-   compared with plain C and with values from docs/FORMATS.md.
+/* Tests pixels in each format, reported changes, many blocks and packs in one call, counts, and a player that is copied to itself.
+   The expected results come from plain C and from docs/FORMATS.md.
 
-   test_pixels [STREAM]   with a raw stream of blocks it also feeds that, at once and block by block */
+   test_pixels [STREAM]   also feeds a raw stream, in one call and block by block */
 #include "ribjasper.h"
 
 #include "testing.h"
 
 static uint32_t seed = 1;
 
-static uint32_t any(uint32_t below)
+static uint32_t random_below(uint32_t below)
 {
     seed = seed * 1664525u + 1013904223u;
     return (uint32_t)((uint64_t)(seed >> 8) * below >> 24);
 }
 
-/* Mostly a pack with a meaning; its two parities do not affect the drawing. */
-static void any_pack(uint8_t pack[24])
+/* Mostly a graphics pack; its two parities do not affect the drawing. */
+static void random_pack(uint8_t pack[24])
 {
     static const uint8_t codes[] = { 1, 2, 6, 6, 6, 6, 38, 38, 38, 38, 20, 24, 28, 30, 31, 3 };
     int i;
     for (i = 0; i < 24; i++)
-        pack[i] = (uint8_t)any(256);
-    pack[0] = any(20) == 0 ? (uint8_t)any(256) : 9;
-    pack[1] = codes[any(sizeof codes)];
-    if (any(3) > 0) {
-        pack[6] = (uint8_t)any(18);
-        pack[7] = (uint8_t)any(50);
+        pack[i] = (uint8_t)random_below(256);
+    pack[0] = random_below(20) == 0 ? (uint8_t)random_below(256) : 9;
+    pack[1] = codes[random_below(sizeof codes)];
+    if (random_below(3) > 0) {
+        pack[6] = (uint8_t)random_below(18);
+        pack[7] = (uint8_t)random_below(50);
     }
 }
 
@@ -58,9 +58,9 @@ static void plain_pixel(uint32_t format, uint8_t number, uint16_t colour, uint8_
 }
 
 #define ROOM 300000
-static uint8_t out[ROOM], wanted[ROOM], before[RIBJASPER_PIXELS], after[RIBJASPER_PIXELS];
+static uint8_t out[ROOM], expected[ROOM], before[RIBJASPER_PIXELS], after[RIBJASPER_PIXELS];
 
-/* One part of the screen in one format: each byte, and no other byte. */
+/* Checks each byte of a part of the screen in one format, and that no other byte changes. */
 static void check_part(const ribjasper_player *player, uint32_t format, uint32_t x, uint32_t y, uint32_t width,
                        uint32_t height, uint32_t gap, size_t spare)
 {
@@ -73,24 +73,24 @@ static void check_part(const ribjasper_player *player, uint32_t format, uint32_t
     CHECK(ribjasper_player_colours(player, colours) == 0 && ribjasper_player_levels(player, levels) == 0);
     CHECK(ribjasper_player_screen(player, before) == 0);
     memset(out, 0xa5, sizeof out);
-    memset(wanted, 0xa5, sizeof wanted);
+    memset(expected, 0xa5, sizeof expected);
     for (j = 0; j < height; j++)
         for (i = 0; i < width; i++) {
             uint8_t number = before[300 * (y + j) + x + i], bytes[4];
             plain_pixel(format, number, colours[number], levels[number], bytes);
-            memcpy(wanted + (size_t)stride * j + sizes[format] * i, bytes, sizes[format]);
+            memcpy(expected + (size_t)stride * j + sizes[format] * i, bytes, sizes[format]);
         }
     CHECK(ribjasper_player_pixels(player, format, x, y, width, height, out, room + spare, stride) == RIBJASPER_DONE);
-    CHECK(memcmp(out, wanted, sizeof out) == 0);
+    CHECK(memcmp(out, expected, sizeof out) == 0);
     /* A buffer that is one byte too small, and overlapping rows, are refused, and nothing is written. */
     memset(out, 0xa5, sizeof out);
-    memset(wanted, 0xa5, sizeof wanted);
+    memset(expected, 0xa5, sizeof expected);
     if (height > 0 && width > 0) {
         CHECK(ribjasper_player_pixels(player, format, x, y, width, height, out, room - 1, stride) == RIBJASPER_REFUSED);
         CHECK(ribjasper_player_pixels(player, format, x, y, width, height, out, ROOM, sizes[format] * width - 1) ==
               RIBJASPER_REFUSED);
     }
-    CHECK(memcmp(out, wanted, sizeof out) == 0);
+    CHECK(memcmp(out, expected, sizeof out) == 0);
 }
 
 static void pixels(void)
@@ -120,7 +120,7 @@ static void pixels(void)
     CHECK(ribjasper_player_pixels(&player, RIBJASPER_RGBA_LEVELS, 0, 0, 1, 1, out, 4, 4) == 0);
     CHECK(out[0] == 0 && out[1] == 0 && out[2] == 0 && out[3] == 255);
     for (n = 0; n < 4000; n++) {
-        any_pack(pack);
+        random_pack(pack);
         CHECK(ribjasper_player_draw(&player, pack) == 0);
     }
     for (format = 0; format < 7; format++) {
@@ -138,10 +138,10 @@ static void pixels(void)
         CHECK(ribjasper_player_pixels(&player, format, 0, 0, 0, 0, NULL, 0, 0) == RIBJASPER_DONE);
     }
     for (n = 0; n < 700; n++) {
-        uint32_t x = any(301), y = any(217);
-        any_pack(pack);
+        uint32_t x = random_below(301), y = random_below(217);
+        random_pack(pack);
         CHECK(ribjasper_player_draw(&player, pack) == 0);
-        check_part(&player, n % 7, x, y, any(301 - x), any(217 - y), any(20), any(30));
+        check_part(&player, n % 7, x, y, random_below(301 - x), random_below(217 - y), random_below(20), random_below(30));
     }
     CHECK(ribjasper_player_pixels(&player, 7, 0, 0, 1, 1, out, 4, 4) == RIBJASPER_REFUSED);
     for (n = 0; n < 5; n++) {
@@ -164,7 +164,7 @@ static int within(const ribjasper_change *change, uint32_t x, uint32_t y)
 }
 
 /* Whether no pixel outside of the reported change differs. */
-static int holds_all(const ribjasper_change *change)
+static int contains_all_changes(const ribjasper_change *change)
 {
     uint32_t n;
     for (n = 0; n < RIBJASPER_PIXELS; n++)
@@ -228,7 +228,7 @@ static int is_change(const ribjasper_change *one, const ribjasper_change *other)
            one->bottom == other->bottom && one->colours == other->colours && one->levels == other->levels;
 }
 
-/* Packs one by one and many in one call: the report is that of the header, and nothing else changes. */
+/* Draws packs one by one and many in one call. The reported change must be that of the header, and no other pixel may change. */
 static void changes(void)
 {
     static uint8_t packs[24 * 40];
@@ -245,12 +245,12 @@ static void changes(void)
     CHECK(ribjasper_pack_change(packs, 0, 12, &change) == RIBJASPER_REFUSED);
     CHECK(ribjasper_pack_change(packs, 255, 255, &change) == RIBJASPER_REFUSED && is_change(&change, &result));
     for (round = 0; round < 1500; round++) {
-        uint32_t count = any(40);
+        uint32_t count = random_below(40);
         ribjasper_change sum = { 300, 216, 0, 0, 0, 0 };
         uint16_t colours[16], other[16];
         for (n = 0; n < count; n++) {
             uint8_t *pack = packs + 24 * n, across, down;
-            any_pack(pack);
+            random_pack(pack);
             CHECK(ribjasper_player_offsets(&one, &across, &down) == 0);
             CHECK(ribjasper_pack_change(pack, across, down, &change) == RIBJASPER_DONE);
             result = change_of(ribjasper_pack_touches(pack), across, down);
@@ -261,7 +261,7 @@ static void changes(void)
         CHECK(ribjasper_player_screen(&all, before) == 0 && ribjasper_player_colours(&all, colours) == 0);
         CHECK(ribjasper_player_draw_all(&all, packs, count, &change) == RIBJASPER_DONE);
         CHECK(is_change(&change, &sum));
-        CHECK(ribjasper_player_screen(&all, after) == 0 && holds_all(&change));
+        CHECK(ribjasper_player_screen(&all, after) == 0 && contains_all_changes(&change));
         CHECK(ribjasper_player_colours(&all, other) == 0);
         CHECK(change.colours || memcmp(colours, other, sizeof colours) == 0);
         CHECK(ribjasper_player_screen(&one, before) == 0 && memcmp(before, after, sizeof before) == 0);
@@ -273,7 +273,7 @@ static void changes(void)
     CHECK(held == 0);
 }
 
-/* A stream of blocks, some of them with noise: fed in one call, it shows the same as block by block. */
+/* Feeds a stream with noise in some blocks. In one call, it must show the same as block by block. */
 static void blocks(uint8_t *stream, size_t count)
 {
     ribjasper_player one = RIBJASPER_CLOSED, all = RIBJASPER_CLOSED;
@@ -281,23 +281,23 @@ static void blocks(uint8_t *stream, size_t count)
     ribjasper_counts counts, other;
     size_t at = 0, n, bad = 0;
     for (n = 0; n < count * 20; n++)
-        stream[any((uint32_t)(96 * count))] ^= (uint8_t)(1 + any(63));
+        stream[random_below((uint32_t)(96 * count))] ^= (uint8_t)(1 + random_below(63));
     if (ribjasper_player_open(&one) != RIBJASPER_DONE || ribjasper_player_open(&all) != RIBJASPER_DONE)
         return;
     CHECK(ribjasper_player_begin(&one, RIBJASPER_RAW, 30) == 0 && ribjasper_player_begin(&all, RIBJASPER_RAW, 30) == 0);
     while (at < count) {
-        size_t piece = any(25);
+        size_t piece = random_below(25);
         if (piece > count - at)
             piece = count - at;
         CHECK(ribjasper_player_screen(&all, before) == 0);
         CHECK(ribjasper_player_feed_all(&all, stream + 96 * at, piece, &change) == RIBJASPER_DONE);
-        CHECK(ribjasper_player_screen(&all, after) == 0 && holds_all(&change));
+        CHECK(ribjasper_player_screen(&all, after) == 0 && contains_all_changes(&change));
         for (n = at; n < at + piece; n++) {
             ribjasper_pack packs[4];
-            int32_t came = ribjasper_player_take(&one, stream + 96 * n, packs);
-            CHECK(came >= 0);
-            while (came-- > 0)
-                bad += packs[came].wrong < 0;
+            int32_t count_of_packs = ribjasper_player_take(&one, stream + 96 * n, packs);
+            CHECK(count_of_packs >= 0);
+            while (count_of_packs-- > 0)
+                bad += packs[count_of_packs].wrong < 0;
         }
         CHECK(ribjasper_player_screen(&one, before) == 0 && memcmp(before, after, sizeof before) == 0);
         at += piece;
@@ -360,7 +360,7 @@ static void counted(void)
     ribjasper_player_close(&player);
 }
 
-/* A player that is copied to itself is unchanged, and one that was moved plays on. */
+/* A player that is copied to itself is unchanged, and a player works after its struct was moved. */
 static void one_player_twice(void)
 {
     ribjasper_player player = RIBJASPER_CLOSED, moved;
@@ -400,6 +400,6 @@ int main(int argc, char **argv)
             fclose(file);
     }
     if (!failed)
-        printf("test_pixels: pixels, changes, counts and players that are given twice are as stated\n");
+        printf("test_pixels: pixels, changes, counts and players that are copied to themselves are correct\n");
     return failed;
 }

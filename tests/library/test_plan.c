@@ -1,6 +1,6 @@
-/* The plan of a disc: rows with values from docs/FORMATS.md, each refusal, each buffer that is too small, and each request for
-   memory refused. With four arguments (a sheet, a script, and the numbers of blocks of the lead-in and of the audio) it prints
-   the rows of that disc instead. Linked like tests/library/test_library.c. */
+/* Tests the planning of a disc: rows with values from docs/FORMATS.md, each refusal, buffers that are too small, and each request
+   for memory refused in turn. With four arguments (a sheet, a script, and the numbers of blocks of the lead-in and of the audio)
+   it prints the rows of that disc instead. Linked with a heap that counts (testing.h). */
 #include "ribjasper.h"
 
 #include "testing.h"
@@ -8,7 +8,7 @@
 static const char sheet[] = "FILE \"a\" WAVE\nTRACK 01 AUDIO\nINDEX 01 00:00:00\n";
 
 /* The first picture needs a preset, the border and both halves of the table: four packs. At block 2 only one of them is
-   complete, at block 3 five packs are. The second needs nothing, and the third the border. */
+   complete, at block 3 five packs are. The second picture needs no packs, and the third only the border. */
 static const char late_script[] = "# late\nshow 00:00:02 00:00:03\n\nshow 00:00:10 00:00:10\nborder 3\nshow 00:01:00 00:01:01\n";
 static const char script[] = "# in time\nshow 00:00:03 00:00:03\n\nshow 00:00:10 00:00:10\nborder 3\nshow 00:01:00 00:01:01\n";
 
@@ -24,7 +24,7 @@ static int32_t plan(const char *cue, const char *drawings, uint32_t lead_in, uin
                           room, &result);
 }
 
-/* Whether all rows from this one on are unchanged. */
+/* Whether all rows from number `from` on are unchanged. */
 static int untouched(size_t from)
 {
     const uint8_t *bytes = (const uint8_t *)(rows + from);
@@ -149,7 +149,7 @@ static void rooms_and_memory(void)
     }
 }
 
-/* Every prefix of a script has a plan or is refused, and what is behind its rows is unchanged. */
+/* Every prefix of a script is planned or refused, and the rows after the last one are unchanged. */
 static void torn_scripts(void)
 {
     char part[sizeof late_script];
@@ -177,13 +177,13 @@ static uint8_t *read_file(const char *name, size_t *size)
 
 static int print_plan(char **words)
 {
-    enum { MOST = 20000 };
-    static ribjasper_plan_row all[MOST];
+    enum { MAX_ROWS = 20000 };
+    static ribjasper_plan_row all[MAX_ROWS];
     size_t sheet_size, script_size;
     uint8_t *cue = read_file(words[1], &sheet_size);
     uint8_t *drawings = read_file(words[2], &script_size);
     int32_t answer = ribjasper_plan(cue, sheet_size, drawings, script_size, (uint32_t)atol(words[3]),
-                                    (uint32_t)atol(words[4]), all, MOST, &result);
+                                    (uint32_t)atol(words[4]), all, MAX_ROWS, &result);
     printf("%d %u %u %u %u %u %u\n", (int)answer, result.pictures, result.blocks, result.late, result.why, result.line, result.number);
     if (answer == RIBJASPER_PLANNED || answer == RIBJASPER_LATE)
         for (uint32_t k = 0; k < result.pictures; k++)
@@ -204,6 +204,6 @@ int main(int count, char **words)
     rooms_and_memory();
     torn_scripts();
     if (!failed)
-        printf("test_plan: all holds\n");
+        printf("test_plan: all checks pass\n");
     return failed;
 }

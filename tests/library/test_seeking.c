@@ -1,5 +1,5 @@
-/* Seeking: from whatever marks it starts, a player has the state of one that was fed, or drew, from the start. A refused call
-   leaves the player and the marks unchanged. Also the conversions of many planar blocks. */
+/* Tests seeking. With any marks, a player that seeks must get the state of one that was fed, or drew, all units from the start. A
+   refused call must leave the player and the marks unchanged. Also tests the conversions of many planar blocks. */
 #include "ribjasper.h"
 #include "testing.h"
 
@@ -31,7 +31,7 @@ static void make_packs(void)
     }
 }
 
-/* A stream with words of idle packs, of graphics and of noise, one after another. */
+/* A stream whose blocks are idle or noise, at random. */
 static void make_stream(void)
 {
     size_t n, i;
@@ -56,8 +56,8 @@ static int same(const ribjasper_player *one, const ribjasper_player *other)
     return memcmp(a, b, sizeof a) == 0 && memcmp(levels, more, sizeof levels) == 0 && memcmp(&counts, &others, sizeof counts) == 0;
 }
 
-/* Whether they also continue in the same way. */
-static int goes_on(ribjasper_player *one, ribjasper_player *other)
+/* Whether two players also have the same state after three more blocks. */
+static int continue_equally(ribjasper_player *one, ribjasper_player *other)
 {
     uint8_t block[RIBJASPER_BLOCK];
     size_t n, i;
@@ -83,7 +83,7 @@ static void blocks_sought(uint32_t form, uint32_t lead_in, uint32_t every, size_
         for (n = 0; n < to; n++)
             CHECK(ribjasper_player_feed(&other, stream + RIBJASPER_BLOCK * n) == RIBJASPER_DONE);
         CHECK(same(&one, &other));
-        CHECK(goes_on(&one, &other));
+        CHECK(continue_equally(&one, &other));
         for (n = 0; n < MARKS; n++)
             CHECK(marks[n].place == 0 || (n < room && marks[n].place == (uint64_t)every * (n + 1)));
         for (n = 0; n < room; n++)
@@ -106,7 +106,7 @@ static void packs_sought(uint32_t every, size_t room)
         CHECK(ribjasper_player_begin(&other, RIBJASPER_RAW, 0) == RIBJASPER_DONE);
         for (n = 0; n < to; n++)
             CHECK(ribjasper_player_draw(&other, packs + RIBJASPER_PACK * n) == RIBJASPER_DONE);
-        CHECK(same(&one, &other) && goes_on(&one, &other));
+        CHECK(same(&one, &other) && continue_equally(&one, &other));
         CHECK(ribjasper_player_begin(&other, RIBJASPER_RAW, 0) == RIBJASPER_DONE);
         CHECK(ribjasper_player_draw_all(&other, packs, to, &change) == RIBJASPER_DONE);
         CHECK(ribjasper_player_seek_packs(&one, packs, PACKS, to, marks, room, every) == RIBJASPER_DONE && same(&one, &other));
@@ -116,7 +116,7 @@ static void packs_sought(uint32_t every, size_t room)
 }
 
 /* A refused call leaves the player and the marks unchanged. */
-static void not_done(void)
+static void refused_calls(void)
 {
     ribjasper_player one = RIBJASPER_CLOSED, other = RIBJASPER_CLOSED;
     memset(marks, 0, sizeof marks);
@@ -135,8 +135,8 @@ static void not_done(void)
     CHECK(ribjasper_player_seek_packs(&one, packs, PACKS, PACKS + 1, marks, MARKS, 50) == RIBJASPER_REFUSED);
     CHECK(ribjasper_player_seek_packs(&one, packs, PACKS, UINT64_MAX, marks, MARKS, 50) == RIBJASPER_REFUSED);
     CHECK(ribjasper_player_seek_packs(&one, packs, PACKS, 5, marks, MARKS, 0) == RIBJASPER_REFUSED);
-    CHECK(memcmp(kept, marks, sizeof marks) == 0 && same(&one, &other) && goes_on(&one, &other));
-    /* No stream, no marks, and marks farther apart than the stream is long. */
+    CHECK(memcmp(kept, marks, sizeof marks) == 0 && same(&one, &other) && continue_equally(&one, &other));
+    /* An empty stream, no marks, and marks that are farther apart than the stream is long. */
     CHECK(ribjasper_player_seek(&one, RIBJASPER_RAW, 3, NULL, 0, 0, NULL, 0, 1) == RIBJASPER_DONE);
     CHECK(ribjasper_player_begin(&other, RIBJASPER_RAW, 3) == RIBJASPER_DONE && same(&one, &other));
     CHECK(ribjasper_player_seek_packs(&one, NULL, 0, 0, NULL, 0, 0xFFFFFFFFu) == RIBJASPER_DONE);
@@ -146,7 +146,7 @@ static void not_done(void)
     ribjasper_player_close(&other);
 }
 
-/* Many planar blocks, compared with one call for each. */
+/* Converts many planar blocks in one call, and compares the result with one call for each. */
 static void planar_blocks(void)
 {
     static uint8_t planar[RIBJASPER_BLOCK * BLOCKS], back[RIBJASPER_BLOCK * BLOCKS];
@@ -189,7 +189,7 @@ int main(void)
     packs_sought(1, 7);
     packs_sought(899, 1);
     packs_sought(300, 0);
-    not_done();
+    refused_calls();
     planar_blocks();
     before = requests;
     {
@@ -201,6 +201,6 @@ int main(void)
     }
     CHECK(held == 0);
     if (!failed)
-        puts("test_seeking: players that seek stand where those stand that were fed from the start");
+        puts("test_seeking: players that seek have the state of players that were fed from the start");
     return failed;
 }

@@ -1,5 +1,5 @@
-/* What the library reads from cue sheets, with values from docs/FORMATS.md, and its small calls: the weight of tiles, times,
-   answers in words. Linked with a heap that counts (testing.h). */
+/* Tests the calls that read cue sheets, with values from docs/FORMATS.md, and some small calls: the weight of tiles, times, and
+   the texts of answers. Linked with a heap that counts (testing.h). */
 #include "ribjasper.h"
 
 #include "testing.h"
@@ -55,7 +55,7 @@ static void what_a_sheet_says(void)
     CHECK(memcmp(rows + 4, kept + 4, sizeof rows - 4 * sizeof *rows) == 0);
     CHECK(held == 0);
 
-    /* A buffer that is just large enough, and one that lacks a row. */
+    /* A buffer that is just large enough, and one that is one row too small. */
     CHECK(ribjasper_sheet(bytes_of(sheet), length, rows, 4, &result) == RIBJASPER_CONVERTED);
     memcpy(kept, rows, sizeof rows);
     memset(&result, 9, sizeof result);
@@ -68,17 +68,17 @@ static void what_a_sheet_says(void)
 
 static void texts_of_a_sheet(void)
 {
-    static const char *wanted[3][3] = { { "The album", "", "" }, { "", "Someone", "" }, { "", "", "" } };
+    static const char *expected[3][3] = { { "The album", "", "" }, { "", "Someone", "" }, { "", "", "" } };
     size_t length = strlen(sheet);
     uint8_t out[16];
     uint32_t bytes, kind, place;
     for (kind = 0; kind < 3; kind++)
         for (place = 0; place < 3; place++) {
-            size_t size = strlen(wanted[kind][place]);
+            size_t size = strlen(expected[kind][place]);
             memset(out, 7, sizeof out);
             bytes = 99;
             CHECK(ribjasper_sheet_text(bytes_of(sheet), length, kind, place, out, sizeof out, &bytes) == 0);
-            CHECK(bytes == size && memcmp(out, wanted[kind][place], size) == 0 && out[size] == 7);
+            CHECK(bytes == size && memcmp(out, expected[kind][place], size) == 0 && out[size] == 7);
             CHECK(ribjasper_sheet_text(bytes_of(sheet), length, kind, place, out, size, &bytes) == 0);
         }
     memset(out, 7, sizeof out);
@@ -89,7 +89,7 @@ static void texts_of_a_sheet(void)
     CHECK(ribjasper_sheet_text(bytes_of(sheet), length, 3, 0, out, 16, &bytes) == RIBJASPER_USAGE && bytes == 99);
     CHECK(ribjasper_sheet_text(bytes_of(sheet), length, 0, 3, out, 16, &bytes) == RIBJASPER_USAGE && bytes == 99);
     CHECK(ribjasper_sheet_text(bytes_of(sheet), length - 40, 0, 0, out, 16, &bytes) == RIBJASPER_TORN && bytes == 99);
-    /* An unknown kind is refused before the sheet is read, whatever the sheet and the buffer. */
+    /* An unknown kind is refused before the sheet is read, for any sheet and any buffer. */
     CHECK(ribjasper_sheet_text(bytes_of(sheet), length - 40, 3, 0, out, 16, &bytes) == RIBJASPER_USAGE && bytes == 99);
     CHECK(ribjasper_sheet_text(bytes_of(sheet), length, 3, 0, out, 0, &bytes) == RIBJASPER_USAGE && bytes == 99);
     CHECK(out[0] == 7 && held == 0);
@@ -304,6 +304,6 @@ int main(void)
     times();
     answers();
     if (!failed)
-        printf("test_sheets: the rows, texts and refusals of cue sheets, weights, times and answers are as stated\n");
+        printf("test_sheets: the rows, texts and refusals of cue sheets, weights, times and answers are correct\n");
     return failed;
 }
