@@ -1,5 +1,5 @@
-/* Readings mended by the library, on streams of a few blocks that are made here: the places of the symbols of a word
-   come from docs/FORMATS.md, and the codeword is the memory preset of the graphics there. */
+/* Tests the calls that mend readings, on streams of a few blocks that are made here. The places of the symbols of a word and the
+   codeword, a memory preset, come from docs/FORMATS.md. */
 #include "ribjasper.h"
 
 #include <stdio.h>
@@ -100,7 +100,7 @@ static void readings(void)
     CHECK(mend(one, other, packs, &result) == RIBJASPER_CONVERTED && has_counts(&result, 9, 0, 0, 0, 0));
     CHECK(are_packs(packs, preset));
 
-    /* Only one reading has it: the other one is mostly noise. */
+    /* Only one reading has the codeword; word 1 of the other one is noise. */
     make_stream(one);
     for (size_t i = 0; i < 24; i++)
         word[i] = (uint8_t)(3 * i + 11) & 0x3f;
@@ -110,11 +110,11 @@ static void readings(void)
     CHECK(are_packs(packs, preset));
     CHECK(mend(other, one, packs, &result) == RIBJASPER_CONVERTED && has_counts(&result, 8, 0, 1, 0, 0));
     CHECK(are_packs(packs, preset));
-    /* Neither reading has it. */
+    /* Neither reading has the codeword. */
     CHECK(mend(other, other, packs, &result) == RIBJASPER_DAMAGED && has_counts(&result, 8, 0, 0, 0, 1));
     CHECK(are_packs(packs, zeros));
 
-    /* Three symbols are wrong in both, differently: the differences show where. */
+    /* The same three symbols are wrong in both readings, with different values. The differences show which symbols are wrong. */
     memcpy(word, preset, 24);
     word[5] ^= 1;
     word[11] ^= 1;
@@ -159,7 +159,7 @@ static void empty_blocks(void)
     put_word(one, 1, word);
     CHECK(mend(one, other, packs, &result) == RIBJASPER_CONVERTED && has_counts(&result, 0, 9, 0, 0, 0));
     CHECK(are_packs(packs, preset));
-    /* Two symbols of a pack of extended graphics are wrong: it does not show that the other reading lacks graphics. The idle
+    /* Two symbols of a pack of extended graphics are wrong: it does not show that the other reading misses graphics. An idle
        pack with unread blocks is still the last choice. */
     memcpy(word, extended, 24);
     word[4] ^= 5;
@@ -170,7 +170,7 @@ static void empty_blocks(void)
     CHECK(mend(other, one, packs, &result) == RIBJASPER_CONVERTED && has_counts(&result, 7, 0, 2, 0, 0));
     CHECK(are_packs(packs, extended));
     make_stream(one);
-    /* Idle symbols with good frames in all blocks: a reading without channels R to W. */
+    /* A reading without channels R to W: its symbols are idle, and its frames are good. */
     memset(other, 0, BYTES);
     for (size_t block = 0; block < BLOCKS; block++)
         memset(other + 96 * block + 80, 0x40, 16);
@@ -202,14 +202,14 @@ static void doubtful_codewords(void)
     CHECK(are_packs(packs, zeros));
     CHECK(mend(other, one, packs, &result) == RIBJASPER_CONVERTED && has_counts(&result, 8, 1, 0, 0, 0));
     CHECK(are_packs(packs, zeros));
-    /* It counts beside itself. */
+    /* It counts if both readings have it. */
     CHECK(mend(one, one, packs, &result) == RIBJASPER_CONVERTED && has_counts(&result, 9, 0, 0, 0, 0));
     CHECK(are_packs(packs, unused));
-    /* Beside a reading that was not read there it does not count, and there is no other codeword. */
+    /* If the other reading is unread there, it does not count, and there is no other codeword. */
     memset(other, 0, BYTES);
     CHECK(mend(one, other, packs, &result) == RIBJASPER_DAMAGED && has_counts(&result, 0, 8, 0, 0, 1));
     CHECK(are_packs(packs, zeros));
-    /* Without wrong symbols it shows that the idle reading lacks graphics. */
+    /* Without wrong symbols, it shows that the idle reading misses graphics. */
     make_stream(other);
     put_word(other, 1, zeros);
     put_word(one, 1, unused);
@@ -328,7 +328,7 @@ static void many_readings(void)
     CHECK(sources[0] == 0 && sources[1] == 1 && all_are(sources + 2, WORDS - 2, 0) && tallies_are(&result, of_both, none_of, 2, 0, 0));
     CHECK(ribjasper_mend_readings(all, 3 * BYTES, 3, 0, packs, ROOM, sources, WORDS, &result) == RIBJASPER_CONVERTED);
     CHECK(sources[0] == 0 && sources[1] == 2 && memcmp(packs + 24, preset, 24) == 0);
-    /* Two readings are lost there, and agree on it. */
+    /* Neither reading has a codeword for word 1, but the two agree on one. */
     for (size_t r = 0; r < 2; r++) {
         memcpy(word, preset, 24);
         for (size_t k = 5; k < 20; k += 6)
@@ -339,7 +339,7 @@ static void many_readings(void)
     CHECK(sources[1] == RIBJASPER_AGREED && memcmp(packs + 24, preset, 24) == 0 && result.agreed == 1 && result.none == 0);
     CHECK(ribjasper_mend_readings(all, BYTES, 1, 0, packs, ROOM, sources, WORDS, &result) == RIBJASPER_DAMAGED);
     CHECK(sources[1] == RIBJASPER_NO_READING && all_are(packs, ROOM, 0) && result.agreed == 0 && result.none == 1);
-    /* The greatest number of readings that have different sources: all except the last lack channels R to W. */
+    /* The greatest number of readings that have different sources: all except the last have no channels R to W. */
     for (size_t r = 0; r < 255; r++) {
         make_stream(all + r * BYTES);
         for (size_t k = 0; r < 253 && k < BYTES; k++)
@@ -383,29 +383,29 @@ static void refusals_of_many(void)
     CHECK(result.bytes == 120 && result.blocks == 3 && memcmp(packs, preset, 24) == 0);
 }
 
-/* A stream in a buffer of exactly this size, between bytes that must not change. */
+/* The output of mend_stream: the stream and the sources, each between EDGE bytes that must not change. */
 enum { EDGE = 5 };
-static uint8_t streamed[BYTES + 2 * EDGE], named[WORDS + 2 * EDGE];
+static uint8_t mended[BYTES + 2 * EDGE], named_sources[WORDS + 2 * EDGE];
 
 static int32_t mend_stream(const uint8_t *all, uint32_t count, uint32_t lead_in, size_t words, ribjasper_mended_readings *result)
 {
-    memset(streamed, 7, sizeof streamed);
-    memset(named, 7, sizeof named);
+    memset(mended, 7, sizeof mended);
+    memset(named_sources, 7, sizeof named_sources);
     memset(result, 7, sizeof *result);
-    return ribjasper_mend_stream(all, count * BYTES, count, lead_in, streamed + EDGE, BYTES, named + EDGE, words, result);
+    return ribjasper_mend_stream(all, count * BYTES, count, lead_in, mended + EDGE, BYTES, named_sources + EDGE, words, result);
 }
 
-static int stays_outside(size_t words)
+static int outside_is_unchanged(size_t words)
 {
-    return all_are(streamed, EDGE, 7) && all_are(streamed + EDGE + BYTES, EDGE, 7) && all_are(named, EDGE, 7)
-        && all_are(named + EDGE + words, sizeof named - EDGE - words, 7);
+    return all_are(mended, EDGE, 7) && all_are(mended + EDGE + BYTES, EDGE, 7) && all_are(named_sources, EDGE, 7)
+        && all_are(named_sources + EDGE + words, sizeof named_sources - EDGE - words, 7);
 }
 
 /* The symbol in a byte of the output, and its P and Q bits. */
-static int symbol_at(size_t byte) { return streamed[EDGE + byte] & 0x3f; }
-static int channels_at(size_t byte) { return streamed[EDGE + byte] & 0xc0; }
+static int symbol_at(size_t byte) { return mended[EDGE + byte] & 0x3f; }
+static int channels_at(size_t byte) { return mended[EDGE + byte] & 0xc0; }
 
-/* Whether a byte belongs to a whole word. */
+/* Whether a byte belongs to a complete word. */
 static int is_of_word(size_t byte)
 {
     for (size_t n = 0; n < WORDS; n++)
@@ -429,8 +429,8 @@ static void streams(void)
     word[0] ^= 1;
     word[23] ^= 63;
     put_word(all, 1, word);
-    CHECK(mend_stream(all, 1, 0, WORDS, &result) == RIBJASPER_CONVERTED && stays_outside(WORDS));
-    CHECK(memcmp(streamed + EDGE, bare, BYTES) == 0 && all_are(named + EDGE, WORDS, 0));
+    CHECK(mend_stream(all, 1, 0, WORDS, &result) == RIBJASPER_CONVERTED && outside_is_unchanged(WORDS));
+    CHECK(memcmp(mended + EDGE, bare, BYTES) == 0 && all_are(named_sources + EDGE, WORDS, 0));
     CHECK(result.bytes == BYTES && result.blocks == BLOCKS && result.of_reading[0] == WORDS && result.none == 0);
     /* Channels P and Q come from the only reading with a good Q frame: the third. */
     make_stream(all);
@@ -441,7 +441,7 @@ static void streams(void)
         all[BYTES + 96 + k] ^= k % 2 == 0 ? 0x40 : 0;
         all[2 * BYTES + 96 + k] |= 0x80;
     }
-    CHECK(mend_stream(all, 3, 0, WORDS, &result) == RIBJASPER_CONVERTED && stays_outside(WORDS));
+    CHECK(mend_stream(all, 3, 0, WORDS, &result) == RIBJASPER_CONVERTED && outside_is_unchanged(WORDS));
     for (k = 0; k < BYTES; k++)
         CHECK(channels_at(k) == ((k / 96 == 1 ? all[2 * BYTES + k] : bare[k]) & 0xc0) && symbol_at(k) == (bare[k] & 0x3f));
     /* If no frame is good, they come from a reading that was read: the second, whose symbols are not all 0. */
@@ -450,7 +450,7 @@ static void streams(void)
     memset(all + 96 * 3, 0, 96);
     for (k = 0; k < 96; k++)
         all[BYTES + 96 * 3 + k] = (uint8_t)(0x80 | (k == 71 ? 9 : 0));
-    CHECK(mend_stream(all, 2, 0, WORDS, &result) == RIBJASPER_CONVERTED && stays_outside(WORDS));
+    CHECK(mend_stream(all, 2, 0, WORDS, &result) == RIBJASPER_CONVERTED && outside_is_unchanged(WORDS));
     for (k = 96 * 3; k < BYTES; k++)
         CHECK(channels_at(k) == 0x80);
     /* A block with only P bits was read. */
@@ -459,7 +459,7 @@ static void streams(void)
     CHECK(mend_stream(all, 2, 0, WORDS, &result) == RIBJASPER_CONVERTED);
     for (k = 96 * 3; k < BYTES; k++)
         CHECK(channels_at(k) == 0x80 && symbol_at(k) == 0);
-    /* Symbols that belong to no whole word come from a reading that was read there: the greater of two different ones. */
+    /* Symbols that belong to no complete word come from a reading that was read there: the greater of two different ones. */
     make_stream(all);
     make_stream(all + BYTES);
     for (k = 0; k < BYTES; k++)
@@ -468,7 +468,7 @@ static void streams(void)
             all[BYTES + k] |= 42;
         }
     memset(all, 0, 96);
-    CHECK(mend_stream(all, 2, 0, WORDS, &result) == RIBJASPER_CONVERTED && stays_outside(WORDS));
+    CHECK(mend_stream(all, 2, 0, WORDS, &result) == RIBJASPER_CONVERTED && outside_is_unchanged(WORDS));
     for (k = 0; k < BYTES; k++)
         CHECK(symbol_at(k) == (is_of_word(k) ? bare[k] & 0x3f : 42));
     /* Both readings lost a word at different places: the symbols of each block come from the reading with the greater ones, and
@@ -484,9 +484,9 @@ static void streams(void)
     for (k = 0; k < BYTES; k += 96)
         memcpy(bare + k, memcmp(all + k, all + BYTES + k, 96) > 0 ? all + k : all + BYTES + k, 96);
     CHECK(memcmp(bare, all, BYTES) != 0 && memcmp(bare, all + BYTES, BYTES) != 0);
-    CHECK(mend_stream(all, 2, 0, WORDS, &result) == RIBJASPER_DAMAGED && stays_outside(WORDS));
-    CHECK(named[EDGE + 1] == RIBJASPER_NO_READING && result.none == 1 && memcmp(streamed + EDGE, bare, BYTES) == 0);
-    CHECK(ribjasper_convert(streamed + EDGE, BYTES, RIBJASPER_RAW, 0, packs, ROOM, &converted) == RIBJASPER_DAMAGED && converted.bad == 1);
+    CHECK(mend_stream(all, 2, 0, WORDS, &result) == RIBJASPER_DAMAGED && outside_is_unchanged(WORDS));
+    CHECK(named_sources[EDGE + 1] == RIBJASPER_NO_READING && result.none == 1 && memcmp(mended + EDGE, bare, BYTES) == 0);
+    CHECK(ribjasper_convert(mended + EDGE, BYTES, RIBJASPER_RAW, 0, packs, ROOM, &converted) == RIBJASPER_DAMAGED && converted.bad == 1);
     /* The lead-in comes from the reading that was read there; word 0 of the program is word 4 of the stream. */
     make_stream(all);
     make_stream(all + BYTES);
@@ -496,21 +496,21 @@ static void streams(void)
     put_word(all + BYTES, 4, preset);
     memset(all, 0, 96);
     memset(all + BYTES, 0x2a, 96);
-    CHECK(mend_stream(all, 2, 1, WORDS - 4, &result) == RIBJASPER_CONVERTED && stays_outside(WORDS - 4));
-    CHECK(result.bytes == BYTES && result.blocks == 3 && named[EDGE] == 1 && all_are(streamed + EDGE, 96, 0x2a));
-    CHECK(ribjasper_convert(streamed + EDGE, BYTES, RIBJASPER_RAW, 1, packs, ROOM, &converted) == RIBJASPER_CONVERTED);
-    CHECK(converted.bytes == ROOM - 96 && memcmp(packs, preset, 24) == 0 && memcmp(streamed + EDGE + 96, all + BYTES + 96, BYTES - 96) == 0);
+    CHECK(mend_stream(all, 2, 1, WORDS - 4, &result) == RIBJASPER_CONVERTED && outside_is_unchanged(WORDS - 4));
+    CHECK(result.bytes == BYTES && result.blocks == 3 && named_sources[EDGE] == 1 && all_are(mended + EDGE, 96, 0x2a));
+    CHECK(ribjasper_convert(mended + EDGE, BYTES, RIBJASPER_RAW, 1, packs, ROOM, &converted) == RIBJASPER_CONVERTED);
+    CHECK(converted.bytes == ROOM - 96 && memcmp(packs, preset, 24) == 0 && memcmp(mended + EDGE + 96, all + BYTES + 96, BYTES - 96) == 0);
     /* A program of one block or none has no words: each block comes from a reading that was read there. */
     for (uint32_t lead_in = 3; lead_in < 6; lead_in++) {
-        memset(streamed, 7, sizeof streamed);
-        CHECK(ribjasper_mend_stream(all, 2 * BYTES, 2, lead_in, streamed + EDGE, BYTES, NULL, 0, &result) == RIBJASPER_CONVERTED);
+        memset(mended, 7, sizeof mended);
+        CHECK(ribjasper_mend_stream(all, 2 * BYTES, 2, lead_in, mended + EDGE, BYTES, NULL, 0, &result) == RIBJASPER_CONVERTED);
         CHECK(result.blocks == (lead_in == 3 ? 1 : 0) && result.bytes == BYTES && result.none == 0);
-        CHECK(all_are(streamed + EDGE, 96, 0x2a) && memcmp(streamed + EDGE + 96, all + 96, BYTES - 96) == 0);
-        CHECK(all_are(streamed, EDGE, 7) && all_are(streamed + EDGE + BYTES, EDGE, 7));
+        CHECK(all_are(mended + EDGE, 96, 0x2a) && memcmp(mended + EDGE + 96, all + 96, BYTES - 96) == 0);
+        CHECK(all_are(mended, EDGE, 7) && all_are(mended + EDGE + BYTES, EDGE, 7));
     }
 }
 
-/* Five readings in each of their 120 orders give the same stream. The first three have every word. The first and the third
+/* Mends five readings in each of their 120 orders; the stream must be the same. The first three have every word. The first and the third
    agree on the other symbols. The last two have noise in channels R to W and the greatest other symbols. */
 static void streams_in_each_order(void)
 {
@@ -555,14 +555,14 @@ static void streams_in_each_order(void)
             continue;
         for (size_t place = 0; place < COUNT; place++)
             memcpy(all + place * BYTES, each[digits[place]], BYTES);
-        CHECK(mend_stream(all, COUNT, 0, WORDS, &result) == RIBJASPER_CONVERTED && stays_outside(WORDS));
-        CHECK(memcmp(streamed + EDGE, right, BYTES) == 0);
+        CHECK(mend_stream(all, COUNT, 0, WORDS, &result) == RIBJASPER_CONVERTED && outside_is_unchanged(WORDS));
+        CHECK(memcmp(mended + EDGE, right, BYTES) == 0);
         orders++;
     }
     CHECK(orders == 120);
 }
 
-/* Each reading is whole in turn, in streams of each length up to some blocks, with each lead-in. */
+/* For each word in turn, another reading is undamaged; for streams of each length up to LONG blocks, with each lead-in. */
 static void streams_of_all_lengths(void)
 {
     enum { LONG = 9 };
@@ -638,6 +638,6 @@ int main(void)
     streams_of_all_lengths();
     refusals_of_streams();
     if (!failed)
-        printf("test_mend: each list of readings gives what its row says\n");
+        printf("test_mend: each list of readings has its expected result\n");
     return failed;
 }

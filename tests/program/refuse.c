@@ -1,5 +1,5 @@
-/* Refuses one request for memory: the one with the number in REFUSE, counted from 0. LD_PRELOAD loads it before a program;
-   when the program ends, it writes the number of its requests to the file in COUNT. */
+/* Refuses one memory request of a program: the one whose number, counted from 0, is in the variable REFUSE. The library is loaded
+   with LD_PRELOAD. When the program ends, the library writes the number of requests to the file whose name is in COUNT. */
 #define _GNU_SOURCE
 #include <dlfcn.h>
 #include <errno.h>
@@ -50,7 +50,7 @@ int posix_memalign(void **to, size_t align, size_t size) {
     return real(to, align, size);
 }
 
-__attribute__((destructor)) static void tell(void) {
+__attribute__((destructor)) static void write_count(void) {
     const char *name = getenv("COUNT");
     FILE *file = name ? fopen(name, "w") : NULL;
     if (!file) return;

@@ -1,8 +1,8 @@
 #!/bin/sh
-# Runs bin/ribjasper with each of its requests for memory refused in turn, on some small inputs. Each run must end as with
-# ample memory, or with 'no memory' (7) and without output. Two careless programs, one that writes before it reports this
-# and one that fails in another way, must be detected. Not part of the gate; it needs a C compiler for the small library
-# that refuses.
+# Runs bin/ribjasper on some small inputs, and refuses each of its memory requests in turn. Each run must end as with enough
+# memory, or with 'no memory' (status 7) and without output. Two careless programs must be detected: one that writes output before
+# it reports 'no memory', and one that fails in another way. Not part of the gate; it needs a C compiler for the small library that
+# refuses requests.
 set -e
 cd "$(dirname "$0")/../.."
 [ -x bin/ribjasper ] || tools/build/build.sh
@@ -23,7 +23,7 @@ bin/ribjasper save --lead-in 0 <"$work/blocks" >"$work/saved"
 
 program=bin/ribjasper
 failures=0
-# run NUMBER OUT ERR WORDS ..: runs a command with one request refused, and prints the result
+# run NUMBER OUT ERR WORDS ..: runs a command with one request refused, and prints the exit status
 run() {
     number=$1 out=$2 err=$3
     shift 3
@@ -34,23 +34,23 @@ run() {
 
 # Tries a command with each request refused in turn.
 try() {
-    ample=$(run -1 "$work/ample.out" "$work/ample.err" "$@")
+    enough=$(run -1 "$work/enough.out" "$work/enough.err" "$@")
     requests=$(cat "$work/count")
-    kept=0 refused=0 number=0
+    same=0 refused=0 number=0
     while [ "$number" -lt "$requests" ]; do
         status=$(run "$number" "$work/out" "$work/err" "$@")
         if [ "$status" = 7 ] && [ ! -s "$work/out" ] && [ "$(cat "$work/err")" = "no memory" ]; then
             refused=$((refused + 1))
-        elif [ "$status" = "$ample" ] && cmp -s "$work/out" "$work/ample.out" &&
-            cmp -s "$work/err" "$work/ample.err"; then
-            kept=$((kept + 1))
+        elif [ "$status" = "$enough" ] && cmp -s "$work/out" "$work/enough.out" &&
+            cmp -s "$work/err" "$work/enough.err"; then
+            same=$((same + 1))
         else
             failures=$((failures + 1))
             echo "request $number of '$*': status $status"
         fi
         number=$((number + 1))
     done
-    echo "$1 (status $ample): $requests requests, $refused end with no memory, $kept as with ample memory"
+    echo "$1 (status $enough): $requests requests, $refused end with no memory, $same end as with enough memory"
 }
 
 try convert --lead-in 0 -- "$work/blocks"
@@ -73,7 +73,7 @@ try text --lead-in 12 -- "$work/texts"
 try trial --seed 42 --pictures 1
 [ "$failures" = 0 ] || { echo "$failures runs ended in another way"; exit 1; }
 
-# careless NAME STATEMENT: a program that allocates memory and executes the statement if there is none
+# careless NAME STATEMENT: a program that allocates memory, and executes the statement if this fails
 careless() {
     printf '#include <stdio.h>\n#include <stdlib.h>\nint main(void) {
     char *volatile memory = malloc(1000);
@@ -81,10 +81,10 @@ careless() {
     return 0;\n}\n' "$2" >"$work/$1.c"
     cc -o "$work/$1" "$work/$1.c"
     program=$work/$1 failures=0
-    try "$1" >"$work/told"
-    [ "$failures" -gt 0 ] || { echo "a program that is $1 is not noticed"; exit 1; }
+    try "$1" >"$work/log"
+    [ "$failures" -gt 0 ] || { echo "a program that is $1 is not detected"; exit 1; }
 }
 
 careless hasty 'puts("half"); fputs("no memory\n", stderr); return 7;'
 careless mistaken 'fputs("usage\n", stderr); return 2;'
-echo "two careless programs are noticed"
+echo "two careless programs are detected"

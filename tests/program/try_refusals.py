@@ -20,8 +20,8 @@ BEGINNINGS: dict[str, list[list[str]]] = {
 }
 
 
-def told(program: str, sheet: list[str], script: list[str]) -> str:
-    """The answer of the program to a sheet and a script."""
+def message_of(program: str, sheet: list[str], script: list[str]) -> str:
+    """The error message of the program for a sheet and a script."""
     with tempfile.TemporaryDirectory() as folder:
         names = []
         for name, lines in (("sheet", sheet), ("script", script)):
@@ -36,17 +36,17 @@ def is_refused(program: str, kind: str, why: str, example: str) -> bool:
     for beginning in BEGINNINGS[kind]:
         lines = [*beginning, example]
         texts = (lines, []) if kind == "cue" else (SHEET, lines)
-        if told(program, *texts) == f"refused {kind} {len(lines)} {why}":
+        if message_of(program, *texts) == f"refused {kind} {len(lines)} {why}":
             return True
     return False
 
 
 def main() -> int:
     parser = argparse.ArgumentParser(
-        description="Tries the example lines in the tables of docs/FORMATS.md that say why a cue sheet or a "
+        description="Tests the example lines in the tables of docs/FORMATS.md with the reasons why a cue sheet or a "
         "script is refused."
     )
-    parser.add_argument("program", metavar="PROGRAM", help="the program that refuses them")
+    parser.add_argument("program", metavar="PROGRAM", help="the program to test")
     program = parser.parse_args().program
     count, wrong = 0, 0
     for kind, table in reasons(FORMATS.read_text()).items():
@@ -55,9 +55,9 @@ def main() -> int:
                 count += 1
                 if not is_refused(program, kind, bare(why), example):
                     wrong += 1
-                    print(f"try_refusals: {example} is not refused as {why}", file=sys.stderr)
+                    print(f"try_refusals: {example} is not refused with {why}", file=sys.stderr)
     if count < 20:
-        sys.exit(f"try_refusals: {count} examples only")
+        sys.exit(f"try_refusals: there are only {count} examples")
     return 1 if wrong else 0
 
 
