@@ -1,7 +1,7 @@
 #!/bin/sh
-# The player as plain C (tools/build/make_c.sh): its pictures equal those of the command `screen`, compiled by gcc, by clang
-# and, if wine is there, by mingw. Skipped if a tool or something that make builds is missing. With the argument `measure` a
-# block and a picture are measured.
+# Compares the pictures of the player in plain C (tools/build/make_c.sh) with those of the command `screen`. gcc and clang compile
+# the player; mingw does too if wine is installed. Skipped if a tool or something that make builds is missing. With the argument
+# `measure` the script also measures a block and a picture.
 set -e
 cd "$(dirname "$0")/../.."
 [ -f lib/web/ribjasper32.wasm ] || { echo "compare_c: skipped, there is no lib/web/ribjasper32.wasm (make web)"; exit 0; }
@@ -26,13 +26,14 @@ try() {
         -lm -o "$work/$name.exe")
     for blocks in 77 535 1649; do
         time=$(printf '%02d:%02d:%02d' $((blocks / 4500)) $((blocks / 75 % 60)) $((blocks % 75)))
-        bin/ribjasper screen --lead-in 0 --at "$time" <"$work/scratched" >"$work/wanted"
-        $run "$work/$name.exe" $blocks <"$work/scratched" | cmp - "$work/wanted" || { failed=1; return; }
+        bin/ribjasper screen --lead-in 0 --at "$time" <"$work/scratched" >"$work/expected"
+        $run "$work/$name.exe" $blocks <"$work/scratched" | cmp - "$work/expected" || { failed=1; return; }
     done
-    echo "compare_c: three pictures by $name are those of the program"
+    echo "compare_c: three pictures of the player that $name compiled equal those of the program"
     [ "$4" != measure ] || echo "compare_c: $name: $($run "$work/$name.exe" -m <"$work/stream")"
 }
-(cd "$work/c" && cc -O2 -Wall -Wextra -Werror -c ribjasper_c.c -o "$work/checked.o" && cc -O2 -Wall -Wextra -Werror -c player.c -o "$work/checked.o")
+(cd "$work/c" && cc -O2 -Wall -Wextra -Werror -c ribjasper_c.c -o "$work/checked.o" &&
+    cc -O2 -Wall -Wextra -Werror -c player.c -o "$work/checked.o")
 try gcc gcc "" "$1"
 try clang clang "" "$1"
 try mingw x86_64-w64-mingw32-gcc wine "$1"

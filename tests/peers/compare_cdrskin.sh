@@ -1,10 +1,9 @@
 #!/bin/sh
-# Compares the CD-TEXT packs in the lead-in of authored streams with those that libburn, the library of cdrskin, makes
-# from the same cue sheets, byte for byte: titles, performers and songwriters, catalogue numbers and ISRC, the positions
-# in strings of every length, the sizes and the checks. Then cdrskin lists our packs, and each title must be among its
-# lines. The sheets only contain what both read in the same way: plain ASCII, tracks from 1 on, at most 255 packs (we
-# write 256 too). Then one bit is flipped in the first and in a later round of packs, and this must be detected. Skipped
-# if cdrskin or bin/ribjasper is missing.
+# Compares the CD-TEXT packs in the lead-in of authored streams, byte for byte, with those that libburn, the library of cdrskin,
+# makes from the same cue sheets. This covers titles, performers, songwriters, catalogue numbers, ISRC, the positions in strings of
+# every length, the sizes and the checks. Then cdrskin lists our packs, and its lines must contain each title. The sheets only contain
+# what both read in the same way: plain ASCII, tracks from 1 on, at most 255 packs (we also write 256). Then one bit is flipped in
+# the first and in a later cycle of packs, and this must be detected. Skipped if cdrskin or bin/ribjasper is missing.
 set -e
 cd "$(dirname "$0")/../.."
 command -v cdrskin >/dev/null || { echo "compare_cdrskin: skipped, there is no cdrskin (apt-get install cdrskin)"; exit 0; }
@@ -30,7 +29,7 @@ TITLE "One"
 INDEX 01 00:00:00
 END
 
-# Strings of twelve letters, of more than fifteen, and empty ones; both codes.
+# Strings of twelve letters, of more than fifteen letters, and empty ones; a catalogue number and ISRC.
 cat >"$work/kinds.cue" <<END
 CATALOG 0123456789012
 TITLE "ABCDEFGHIJKL"
@@ -65,12 +64,12 @@ END
 failed=0
 # same_packs STREAM SHEET: whether the packs in a lead-in equal those of libburn
 same_packs() {
-    head -c $((150 * 96)) "$1" | python3 tests/peers/lead_in_packs.py >"$work/ours" 2>"$work/told" &&
+    head -c $((150 * 96)) "$1" | python3 tests/peers/lead_in_packs.py >"$work/ours" 2>"$work/errors" &&
         [ -s "$work/ours" ] && cmp -s "$work/ours" "$work/$2.theirs"
 }
 
-# turn_bit FILE PLACE: flips the last bit of a byte of a file
-turn_bit() {
+# flip_bit FILE PLACE: flips the last bit of a byte of a file
+flip_bit() {
     python3 -c '
 import sys
 name, place = sys.argv[1], int(sys.argv[2])
@@ -98,12 +97,12 @@ for sheet in titles kinds lengths; do
     done || failed=1
     for place in 5 $((149 * 96 + 40)); do
         cp "$work/$sheet.raw" "$work/broken.raw"
-        turn_bit "$work/broken.raw" $place
+        flip_bit "$work/broken.raw" $place
         if same_packs "$work/broken.raw" $sheet; then
-            echo "compare_cdrskin: a bit that is turned at byte $place is not noticed" >&2
+            echo "compare_cdrskin: a flipped bit at byte $place is not detected" >&2
             failed=1
         fi
     done
 done
-[ "$failed" = 1 ] || echo "compare_cdrskin: each bit that is turned is noticed"
+[ "$failed" = 1 ] || echo "compare_cdrskin: each flipped bit is detected"
 exit "$failed"

@@ -1,10 +1,10 @@
 #!/bin/sh
-# Compares our screens with ffmpeg's decoding of the packs that we convert, at several frames of a stream with all nine
-# graphics instructions, pixel by pixel in the window inside the border. The scene only contains what both show in the
-# same way: presets repeat 0, the border has the colour of the memory, and no horizontal offset is set (docs/GUIDE.md
-# lists where ffmpeg differs). The border and the transparency levels, which ffmpeg does not show, are compared with the
-# values in examples/graphics_stream.py. Then each instruction is left out in turn, and this must be detected. Skipped if
-# ffmpeg or bin/ribjasper is missing.
+# Compares our screens with ffmpeg's, at several frames of a stream with all nine graphics instructions. ffmpeg decodes the packs
+# that we convert. The pixels of the window inside the border must be equal. The scene only contains what both show in the same
+# way: presets repeat 0, the border has the colour of the memory, and no horizontal offset is set (docs/GUIDE.md lists the
+# differences). ffmpeg does not show the border and the transparency levels, so they are compared with the values in
+# examples/graphics_stream.py. Then each instruction is omitted in turn, and this must be detected. Skipped if ffmpeg or
+# bin/ribjasper is missing.
 set -e
 cd "$(dirname "$0")/../.."
 command -v ffmpeg >/dev/null || { echo "compare_ffmpeg: skipped, there is no ffmpeg (apt-get install ffmpeg)"; exit 0; }
@@ -45,21 +45,21 @@ done
 if same_state "$work/scene.raw"; then
     echo "compare_ffmpeg: border, offsets, colours and levels at the end are those that were set"
 else
-    echo "compare_ffmpeg: border, offsets, colours or levels at the end are others than were set" >&2
+    echo "compare_ffmpeg: border, offsets, colours or levels at the end differ from those that were set" >&2
     failed=1
 fi
 
 for code in 1 2 6 20 24 28 30 31 38; do
     python3 examples/graphics_stream.py without $code >"$work/broken.raw"
-    noticed=no
-    same_state "$work/broken.raw" || noticed=yes
+    detected=no
+    same_state "$work/broken.raw" || detected=yes
     for frame in $frames; do
-        same_picture "$work/broken.raw" "$frame" || noticed=yes
+        same_picture "$work/broken.raw" "$frame" || detected=yes
     done
-    if [ $noticed = no ]; then
-        echo "compare_ffmpeg: that instruction $code is lost is not noticed" >&2
+    if [ $detected = no ]; then
+        echo "compare_ffmpeg: the loss of instruction $code is not detected" >&2
         failed=1
     fi
 done
-[ "$failed" = 1 ] || echo "compare_ffmpeg: each instruction that is left out is noticed"
+[ "$failed" = 1 ] || echo "compare_ffmpeg: each omitted instruction is detected"
 exit "$failed"

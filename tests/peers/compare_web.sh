@@ -1,8 +1,8 @@
 #!/bin/sh
-# Compares lib/web with the program: both modules in Node (tests/peers/test_web.mjs), sixty screens in the engine of WebKit
+# Compares lib/web with the program. It tests both modules in Node (tests/peers/test_web.mjs), sixty screens in the engine of WebKit
 # (test_webkit.mjs), the npm package (test_npm.mjs), parts of the page in Node (test_zip.mjs, test_detect.mjs, test_one_page.py),
-# and the page in Chromium (test_page.mjs). Skipped if a tool, or something that `make` and `make web` build, is missing.
-# With the argument `measure` the modules are also measured, beside a plain player in JavaScript.
+# and the page in Chromium (test_page.mjs). Skipped if a tool, or something that `make` and `make web` build, is missing. With the
+# argument `measure` the modules are also measured, and compared with a plain player in JavaScript.
 set -e
 cd "$(dirname "$0")/../.."
 top=$PWD
@@ -15,7 +15,7 @@ trap 'rm -rf "$work"' EXIT
 # runs FLAG MODULE: whether Node can compile the module.
 runs() { node $1 -e 'new WebAssembly.Module(require("fs").readFileSync(process.argv[1]))' "$2" 2>/dev/null; }
 
-# 64-bit memories need a flag before Node 24, and older ones refuse them. Every Node has 32-bit memories.
+# Node has 64-bit memories without a flag from version 24 on, and some older versions with a flag. Every Node has 32-bit memories.
 for name in ribjasper ribjasper32; do
     module=lib/web/$name.wasm
     [ -f "$module" ] || { echo "compare_web: $name is skipped, there is no $module (make web, with binaryen)"; continue; }
@@ -25,7 +25,7 @@ for name in ribjasper ribjasper32; do
         echo "compare_web: Node refuses $module" >&2
         exit 1
     fi
-    runs "$flag" "$module" || { echo "compare_web: $name is skipped, this node has no 64-bit memories"; continue; }
+    runs "$flag" "$module" || { echo "compare_web: $name is skipped, this Node has no 64-bit memories"; continue; }
     echo "compare_web: $name"
     mkdir "$work/$name"
     node $flag tests/peers/test_web.mjs "$top/bin/ribjasper" "$module" "$work/$name" "$@"
@@ -85,13 +85,13 @@ chromium=$(command -v chromium || command -v chromium-browser || command -v goog
 flag=
 node -e 'process.exit(typeof WebSocket === "undefined" ? 1 : 0)' || flag=--experimental-websocket
 if ! node $flag -e 'process.exit(typeof WebSocket === "undefined" ? 1 : 0)' 2>/dev/null; then
-    echo "compare_web: the page is skipped, this node has no WebSocket"
+    echo "compare_web: the page is skipped, this Node has no WebSocket"
     exit 0
 fi
-# The page plays in real time. On a busy machine it may fail, so it is tried twice.
+# The page plays in real time, so its test may fail on a busy machine. It is then run again.
 page() { node $flag tests/peers/test_page.mjs "$chromium" "$top/bin/ribjasper" lib/web/index.html "$1"; }
 if ! page "$work/page"; then
-    echo "compare_web: the page failed and is tried once more"
+    echo "compare_web: the test of the page failed and is run again"
     mkdir "$work/again"
     page "$work/again"
 fi

@@ -1,5 +1,7 @@
-"""The field of 64 elements, for tools and examples that use no code of the program: polynomials over two elements
-modulo x^6 + x + 1. An element is a number below 64, and its bit k is the coefficient of x^k; x is also called alpha."""
+"""The field of 64 elements, for tools and examples that use no code of the program.
+
+The elements are polynomials over GF(2) modulo x^6 + x + 1. An element is a number below 64; its bit k is the
+coefficient of x^k. x is also called alpha."""
 
 
 def times(a: int, b: int) -> int:
@@ -30,5 +32,5 @@ def power(exponent: int) -> int:
 
 
 def inverse(a: int) -> int:
-    """The element with which the product is 1; 0 has none."""
+    """The multiplicative inverse of an element; 0 has none."""
     return POWERS[-LOGARITHMS[a] % 63]

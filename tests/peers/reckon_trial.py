@@ -1,9 +1,9 @@
 #!/usr/bin/env python3
 """Computes the nine lines of `ribjasper trial` independently: reckon_trial.py SEED PICTURES
 
-No stream is made here. The changes are counted tile by tile, by the rank of the differences of their colours, for every
-start that a change may have; the words that scratches hit are counted from the places of their symbols. No code is
-shared with the program, so the two check each other."""
+No stream is made here. The instructions of a change are counted tile by tile: by the rank of the differences of the
+colours, for every picture from which the change may start. The words that scratches hit are counted from the places of
+their symbols. No code is shared with the program, so the two check each other."""
 import argparse
 import sys
 from typing import Iterable
@@ -12,7 +12,7 @@ from subcode import PLACES, words_of
 
 
 def rank(values: Iterable[int]) -> int:
-    """The number of independent numbers, as lists of bits under exclusive or."""
+    """The rank of some numbers, as vectors of bits over GF(2)."""
     basis: list[int] = []
     for value in values:
         for member in basis:
@@ -56,7 +56,7 @@ def changes(seed: int, pictures: int) -> int:
             for line in window[y : y + height]:
                 line[x : x + width] = [b // 256 % 16] * width
         now = tiles(window)
-        # A clearing in any colour; before the first picture, also the border and both halves of the colours.
+        # The screen may first be cleared with any colour. The first picture also sets the border and both halves of the colour table.
         settings = 4 if before is None else 1
         costs = [settings + sum(steps([colour] * 72, tile) for tile in now) for colour in range(16)]
         if before is not None:
@@ -86,7 +86,7 @@ def touched(seed: int, blocks: int) -> list[int]:
 
 def main() -> int:
     parser = argparse.ArgumentParser(
-        description="Works out the nine lines of `ribjasper trial` by other means."
+        description="Computes the nine lines of `ribjasper trial` independently."
     )
     parser.add_argument("seed", type=int, metavar="SEED")
     parser.add_argument("pictures", type=int, metavar="PICTURES")

@@ -1,5 +1,7 @@
-"""What second implementations of the subcode share, without code of the program: the places of the symbols of a pack,
-the remainder that checks frames and text packs, and the words of the generator."""
+"""Shared code of the independent implementations of the subcode, without code of the program.
+
+It has the places of the symbols of a pack, the remainder that checks frames and text packs, and the words of the random
+number generator."""
 from typing import Iterator
 
 # Symbol i of a pack is at position i, except for three pairs that are exchanged.

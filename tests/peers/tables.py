@@ -1,8 +1,8 @@
 #!/usr/bin/env python3
-"""Computes the tables that the sources contain as numbers, and says which differ.
+"""Computes the tables that the sources contain as numbers, and names those that differ.
 
 The proofs show that each table is right; this script shows how the tables were made. `tables.py NAME` prints one table
-in the layout of its source, `tables.py` compares all of them with the sources.
+in the layout of its source. `tables.py` compares all tables with the sources.
 """
 import argparse
 import pathlib
@@ -27,7 +27,7 @@ def sums(position: int, symbol: int) -> int:
 
 
 def pairs() -> tuple[list[int], list[int]]:
-    """By the logarithm of (x + y)^-2 * xy for x = alpha^d, y = 1: d from 1 to 23, and the logarithm of x + y."""
+    """Two lists with the index log((x + y)^-2 * xy) for x = alpha^d, y = 1: d from 1 to 23, and the logarithm of x + y."""
     differences, logs = [0] * 63, [0] * 63
     for d in range(1, 24):
         log = LOGARITHMS[POWERS[d] ^ 1]
@@ -78,9 +78,9 @@ def source_of(name: str, path: str) -> list[int]:
 def main() -> int:
     known = tables()
     parser = argparse.ArgumentParser(
-        description="Reckons the tables that stand as numbers in the sources, and says which differ."
+        description="Computes the tables that the sources contain as numbers, and names those that differ."
     )
-    parser.add_argument("name", nargs="?", choices=known, metavar="NAME", help="print this table alone")
+    parser.add_argument("name", nargs="?", choices=known, metavar="NAME", help="print only this table")
     name = parser.parse_args().name
     if name:
         for number in known[name][1]:
@@ -88,7 +88,7 @@ def main() -> int:
         return 0
     differing = [name for name, (path, numbers) in known.items() if source_of(name, path) != numbers]
     for name in differing:
-        print(f"{name} in crates/{known[name][0]} is not as reckoned", file=sys.stderr)
+        print(f"{name} in crates/{known[name][0]} differs from the computed table", file=sys.stderr)
     return 1 if differing else 0
 
 

@@ -1,5 +1,5 @@
 #!/usr/bin/env python3
-"""tools/build/one_page.py: scripts are put into a page in the order of their imports, and harmful ones are refused."""
+"""Tests tools/build/one_page.py: it puts scripts into a page in the order of their imports, and refuses harmful ones."""
 from __future__ import annotations
 
 import subprocess
@@ -17,12 +17,13 @@ MAIN = 'import { VERSION, load } from "../lib/ribjasper.mjs";\nimport { a } from
 
 class OnePageTest(unittest.TestCase):
     def setUp(self) -> None:
-        room = tempfile.TemporaryDirectory()
-        self.addCleanup(room.cleanup)
-        self.folder = Path(room.name)
+        folder = tempfile.TemporaryDirectory()
+        self.addCleanup(folder.cleanup)
+        self.folder = Path(folder.name)
         self.files = {"index.html": PAGE, "page.mjs": MAIN, "built.mjs": LIBRARY, "a.mjs": "export const a = 1;\n"}
 
-    def made(self, **changed: str) -> tuple[int, str, str]:
+    def run_tool(self, **changed: str) -> tuple[int, str, str]:
+        """The exit status, the page and the error messages for these changed files."""
         for name, text in (self.files | {name.replace("_", "."): text for name, text in changed.items()}).items():
             (self.folder / name).write_text(text)
         (self.folder / "built.wasm").write_bytes(b"\0asm")
@@ -32,10 +33,10 @@ class OnePageTest(unittest.TestCase):
         return ran.returncode, ran.stdout, ran.stderr
 
     def test_order(self) -> None:
-        status, page, told = self.made(
+        status, page, errors = self.run_tool(
             a_mjs='import { b } from "./b.mjs";\nexport class a {}\n', b_mjs="export const b = 2;\n"
         )
-        self.assertEqual(status, 0, told)
+        self.assertEqual(status, 0, errors)
         lines = ['const VERSION = "1";', "const b = 2;", "class a {}", 'const MODULE = "AGFzbQ==";', "load(a);"]
         places = [page.index(line) for line in lines]
         self.assertEqual(places, sorted(places))
@@ -56,9 +57,9 @@ class OnePageTest(unittest.TestCase):
             ({"page_mjs": "load();\n"}, "exactly one line"),
         ):
             with self.subTest(cause):
-                status, page, told = self.made(**changed)
+                status, page, errors = self.run_tool(**changed)
                 self.assertEqual((status, page), (1, ""))
-                self.assertIn(cause, told)
+                self.assertIn(cause, errors)
 
 
 if __name__ == "__main__":

@@ -34,15 +34,15 @@ run() {
 
 # Tries a command with each request refused in turn.
 try() {
-    enough=$(run -1 "$work/enough.out" "$work/enough.err" "$@")
+    normal=$(run -1 "$work/normal.out" "$work/normal.err" "$@")
     requests=$(cat "$work/count")
     same=0 refused=0 number=0
     while [ "$number" -lt "$requests" ]; do
         status=$(run "$number" "$work/out" "$work/err" "$@")
         if [ "$status" = 7 ] && [ ! -s "$work/out" ] && [ "$(cat "$work/err")" = "no memory" ]; then
             refused=$((refused + 1))
-        elif [ "$status" = "$enough" ] && cmp -s "$work/out" "$work/enough.out" &&
-            cmp -s "$work/err" "$work/enough.err"; then
+        elif [ "$status" = "$normal" ] && cmp -s "$work/out" "$work/normal.out" &&
+            cmp -s "$work/err" "$work/normal.err"; then
             same=$((same + 1))
         else
             failures=$((failures + 1))
@@ -50,7 +50,7 @@ try() {
         fi
         number=$((number + 1))
     done
-    echo "$1 (status $enough): $requests requests, $refused end with no memory, $same end as with enough memory"
+    echo "$1 (status $normal): $requests requests, $refused end with no memory, $same end as with enough memory"
 }
 
 try convert --lead-in 0 -- "$work/blocks"
