@@ -1,14 +1,18 @@
 #!/usr/bin/env python3
-"""Compares how the library mends random readings of known streams with the rule, which is written here a second time:
+"""Compares the mending of the library with a second implementation of its rule:
 compare_mending.py [--cases N] [--seed N] [--library lib/libribjasper.so.0]
 
-Each case is a stream of a few blocks and two to four readings of it: whole, scratched, worn, with noise in channels R
-to W, with zeros there (all or a part), unread (all or a part), shifted, or of another stream. All results must be those
-of the rule: the packs, sources and counts of ribjasper_mend_readings; the stream, sources and counts of
-ribjasper_mend_stream, with and without a lead-in; and the packs and counts of ribjasper_mend for the first two
-readings. The packs and the stream must be the same in the reverse order. The wrong words of the result are counted
-beside those of the best single reading. No code is shared with the program: codewords are found in a table of the sums
-of all errors of one or two symbols (docs/FORMATS.md). The exit status is 1 if something differs."""
+Each case is a random stream of a few blocks, and two to four readings of it. A reading is undamaged, scratched, worn,
+unread (all or a part), shifted, or of another stream, or it has noise or zeros in channels R to W (all or a part). All
+results must be those of the rule in include/ribjasper.h (Mending):
+
+- the packs, sources and counts of ribjasper_mend_readings,
+- the stream, sources and counts of ribjasper_mend_stream, with and without a lead-in,
+- the packs and counts of ribjasper_mend for the first two readings.
+
+In the reverse order of the readings, the packs and the stream must be the same. The script also counts the wrong words
+of the results and of the best single readings. No code is shared with the program: codewords are found in a table of
+the sums of all errors of one or two symbols (docs/FORMATS.md). The exit status is 1 if something differs."""
 import argparse
 import binascii
 import ctypes
@@ -23,7 +27,7 @@ from reckon_rows import parity
 from subcode import PLACES
 
 TOP = pathlib.Path(__file__).resolve().parents[2]
-MOST = 254
+MAX_READINGS = 254
 AGREED, NONE = 254, 255
 IDLE = bytes(24)
 
@@ -31,27 +35,31 @@ IDLE = bytes(24)
 Errors = dict[int, tuple[tuple[int, int], ...]]
 
 
-class Told(ctypes.Structure):
+class Counts(ctypes.Structure):
+    """The struct ribjasper_mended_readings."""
+
     _fields_ = [
         ("bytes", ctypes.c_uint64),
         *((name, ctypes.c_uint32) for name in ("blocks", "agreed", "none", "reserved")),
-        ("of_reading", ctypes.c_uint32 * MOST),
-        ("dropped", ctypes.c_uint32 * MOST),
+        ("of_reading", ctypes.c_uint32 * MAX_READINGS),
+        ("dropped", ctypes.c_uint32 * MAX_READINGS),
     ]
 
 
-class Pair(ctypes.Structure):
+class PairCounts(ctypes.Structure):
+    """The struct ribjasper_mended."""
+
     _fields_ = [
         ("bytes", ctypes.c_uint64),
         *((name, ctypes.c_uint32) for name in ("blocks", "both", "of_first", "of_second", "agreed", "none")),
     ]
 
 
-class Given(NamedTuple):
-    """The codeword of a reading at a word, with its distance; a word far from every codeword has none."""
+class Candidate(NamedTuple):
+    """The codeword of a reading at a word and its distance. The codeword is None if no codeword is near the symbols."""
 
     codeword: Optional[bytes]
-    doubts: int
+    distance: int
 
 
 # ---- The code.
@@ -110,10 +118,10 @@ def is_unread(block: bytes) -> bool:
     return not any(block)
 
 
-def given(reading: bytes, errors: Errors) -> list[Optional[Given]]:
-    """What a reading has at each word; None if the word was not read."""
+def candidates(reading: bytes, errors: Errors) -> list[Optional[Candidate]]:
+    """The candidate of a reading at each word; None if the word is unread."""
     empty = [is_unread(reading[at : at + 96]) for at in range(0, len(reading), 96)]
-    found: list[Optional[Given]] = []
+    found: list[Optional[Candidate]] = []
     for n in range(len(reading) // 24 - 7):
         under = empty[n // 4 : (n + 7) // 4 + 1]
         if all(under):
@@ -122,12 +130,12 @@ def given(reading: bytes, errors: Errors) -> list[Optional[Given]]:
         word = bytes(reading[24 * n + place] & 63 for place in PLACES)
         wrong = errors.get(sums_of(word))
         if wrong is None:
-            found.append(Given(None, 0))
+            found.append(Candidate(None, 0))
             continue
         right = bytearray(word)
         for place, error in wrong:
             right[place] ^= error
-        found.append(Given(bytes(right), 3 if bytes(right) == IDLE and any(under) else len(wrong)))
+        found.append(Candidate(bytes(right), 3 if bytes(right) == IDLE and any(under) else len(wrong)))
     return found
 
 
@@ -136,36 +144,35 @@ def word_at(reading: bytes, n: int) -> bytes:
 
 
 def agreement(one: bytes, other: bytes, errors: Errors) -> Optional[bytes]:
-    """The codeword on which two words agree, found by trial: one word is changed in up to four places where the words
-    differ, and in places where both are equally wrong."""
-    apart = [place for place in range(24) if one[place] != other[place]]
-    if len(apart) > 4:
+    """The codeword on which two words agree, found by trial: one word is changed in up to four places in which the words
+    differ, and in places in which both are equally wrong."""
+    differing = [place for place in range(24) if one[place] != other[place]]
+    if len(differing) > 4:
         return None
-    left = (4 - len(apart)) // 2
-    # The symbols at which they differ are free; the sums of the others show which errors are possible.
-    return search(bytearray(one), apart, left, errors)
+    most_others = (4 - len(differing)) // 2
+    # The symbols in which they differ are free; the sums of the other symbols show which errors are possible.
+    return search(bytearray(one), differing, most_others, errors)
 
 
-def search(word: bytearray, apart: list[int], left: int, errors: Errors) -> Optional[bytes]:
-    if len(apart) <= 2:
+def search(word: bytearray, differing: list[int], most_others: int, errors: Errors) -> Optional[bytes]:
+    if len(differing) <= 2:
         # At most two places are free, and one or two others may be wrong.
-        for values in itertools.product(range(64), repeat=len(apart)):
-            for place, value in zip(apart, values):
+        for values in itertools.product(range(64), repeat=len(differing)):
+            for place, value in zip(differing, values):
                 word[place] = value
             wrong = errors.get(sums_of(word))
-            if wrong is not None and len([place for place, _ in wrong if place not in apart]) <= left:
+            if wrong is not None and len([place for place, _ in wrong if place not in differing]) <= most_others:
                 right = bytearray(word)
                 for place, error in wrong:
                     right[place] ^= error
                 return bytes(right)
         return None
     # Three or four places are free: two of them are tried, and the other two must be an error of two symbols.
-    first, rest = apart[:2], apart[2:]
     for values in itertools.product(range(64), repeat=2):
-        for place, value in zip(first, values):
+        for place, value in zip(differing[:2], values):
             word[place] = value
         wrong = errors.get(sums_of(word))
-        if wrong is not None and all(place in apart for place, _ in wrong):
+        if wrong is not None and all(place in differing for place, _ in wrong):
             right = bytearray(word)
             for place, error in wrong:
                 right[place] ^= error
@@ -177,35 +184,36 @@ KNOWN = (1, 2, 6, 20, 24, 28, 30, 31, 38)
 USED = (8, 9, 10, 24)
 
 
-def is_graphics(found: Optional[Given]) -> bool:
-    """Whether it is a codeword that is not idle, and is either error-free or a graphics pack."""
-    if found is None or found.codeword is None or found.codeword == IDLE:
+def is_graphics(candidate: Optional[Candidate]) -> bool:
+    """Whether a candidate shows that the word is not idle: a graphics pack, or another codeword at distance 0."""
+    if candidate is None or candidate.codeword is None or candidate.codeword == IDLE:
         return False
-    return found.doubts == 0 or (found.codeword[0] == 9 and found.codeword[1] in KNOWN)
+    return candidate.distance == 0 or (candidate.codeword[0] == 9 and candidate.codeword[1] in KNOWN)
 
 
-def is_quiet(found: Optional[Given]) -> bool:
-    return found is None or found.codeword == IDLE
+def is_quiet(candidate: Optional[Candidate]) -> bool:
+    """Whether a reading is unread at a word, or has the idle pack there."""
+    return candidate is None or candidate.codeword == IDLE
 
 
-def is_doubtful(found: Optional[Given]) -> bool:
-    """Whether it is a codeword with wrong symbols whose mode and item no disc uses."""
-    if found is None or found.codeword is None or found.codeword == IDLE:
+def is_doubtful(candidate: Optional[Candidate]) -> bool:
+    """Whether a candidate has wrong symbols, and a mode and item that no disc uses."""
+    if candidate is None or candidate.codeword is None or candidate.codeword == IDLE:
         return False
-    return found.doubts > 0 and found.codeword[0] not in USED
+    return candidate.distance > 0 and candidate.codeword[0] not in USED
 
 
-def dropped(all_given: Sequence[Sequence[Optional[Given]]]) -> list[list[bool]]:
+def dropped(all_candidates: Sequence[Sequence[Optional[Candidate]]]) -> list[list[bool]]:
     """For each reading, the words at which its codeword does not count."""
-    count = len(all_given[0])
-    graphics = [any(is_graphics(own[n]) for own in all_given) for n in range(count)]
-    quiet = [any(is_quiet(own[n]) for own in all_given) for n in range(count)]
+    count = len(all_candidates[0])
+    graphics = [any(is_graphics(own[n]) for own in all_candidates) for n in range(count)]
+    quiet = [any(is_quiet(own[n]) for own in all_candidates) for n in range(count)]
     marks = []
-    for own in all_given:
+    for own in all_candidates:
         lacks = [False] * count
-        for is_silent, group in itertools.groupby(range(count), lambda n: is_quiet(own[n])):
+        for quiet_run, group in itertools.groupby(range(count), lambda n: is_quiet(own[n])):
             words = list(group)
-            if is_silent and any(own[n] is not None and graphics[n] for n in words):
+            if quiet_run and any(own[n] is not None and graphics[n] for n in words):
                 for n in words:
                     lacks[n] = own[n] is not None
         marks.append([lacks[n] or (is_doubtful(own[n]) and quiet[n]) for n in range(count)])
@@ -214,32 +222,32 @@ def dropped(all_given: Sequence[Sequence[Optional[Given]]]) -> list[list[bool]]:
 
 def mend(readings: Sequence[bytes], errors: Errors) -> tuple[list[bytes], list[int], list[int]]:
     """The pack of each word, its source, and the number of dropped codewords of each reading."""
-    all_given = [given(reading, errors) for reading in readings]
-    marks = dropped(all_given)
+    all_candidates = [candidates(reading, errors) for reading in readings]
+    marks = dropped(all_candidates)
     packs, sources = [], []
-    for n in range(len(all_given[0])):
-        here = [own[n] for own in all_given]
+    for n in range(len(all_candidates[0])):
+        here = [own[n] for own in all_candidates]
         counting = {
-            r: (found.codeword, found.doubts)
-            for r, found in enumerate(here)
-            if found is not None and found.codeword is not None and not marks[r][n]
+            r: (candidate.codeword, candidate.distance)
+            for r, candidate in enumerate(here)
+            if candidate is not None and candidate.codeword is not None and not marks[r][n]
         }
         if counting:
-            fewest = min(doubts for _, doubts in counting.values())
+            smallest = min(distance for _, distance in counting.values())
             votes: dict[bytes, int] = {}
             for word, _ in counting.values():
                 votes[word] = votes.get(word, 0) + 1
-            best = {word for word, doubts in counting.values() if doubts == fewest}
+            best = {word for word, distance in counting.values() if distance == smallest}
             most = max(votes[word] for word in best)
             chosen = [word for word in best if votes[word] == most]
             if len(chosen) == 1:
                 packs.append(chosen[0])
-                sources.append(min(r for r, found in counting.items() if found == (chosen[0], fewest)))
+                sources.append(min(r for r, entry in counting.items() if entry == (chosen[0], smallest)))
             else:
                 packs.append(IDLE)
                 sources.append(NONE)
             continue
-        lost = [word_at(readings[r], n) for r, found in enumerate(here) if found is not None and found.codeword is None]
+        lost = [word_at(readings[r], n) for r, candidate in enumerate(here) if candidate is not None and candidate.codeword is None]
         tried = [agreement(one, other, errors) for one, other in itertools.combinations(lost, 2)]
         agreed = {word for word in tried if word is not None}
         only = agreed.pop() if len(agreed) == 1 else None
@@ -254,14 +262,14 @@ def most_frequent(values: Sequence[bytes]) -> bytes:
 
 
 def chosen_channels(blocks: Sequence[bytes]) -> bytes:
-    """The channels P and Q that most blocks with a good frame have, or otherwise most blocks that were read."""
+    """The most frequent channels P and Q of the blocks with a good frame; if there are none, of the blocks that were read."""
     framed = [block for block in blocks if is_frame(block)]
     read = [block for block in blocks if not is_unread(block)]
     return most_frequent([bytes(byte & 0xC0 for byte in block) for block in framed or read or blocks])
 
 
 def chosen_symbols(blocks: Sequence[bytes], known: Sequence[Optional[int]]) -> bytes:
-    """The symbols of a block that was read: of a block with the most known symbols, and of these the most frequent."""
+    """The most frequent symbols of those blocks, among the ones that were read, that have the most known symbols."""
     read = [bytes(byte & 0x3F for byte in block) for block in blocks if not is_unread(block)] or [bytes(96)]
     completed = [bytes(own if mended is None else mended for own, mended in zip(block, known)) for block in read]
     matches = [sum(own == mended for own, mended in zip(block, known)) for block in read]
@@ -348,7 +356,7 @@ def reading(source: random.Random, truth: bytearray, kind: str, words: Sequence[
 
 FOREIGN = {"shifted", "another"}
 KINDS = {
-    "whole": 4.0,
+    "undamaged": 4.0,
     "scratched": 6.0,
     "worn": 6.0,
     "noise": 1.0,
@@ -367,24 +375,26 @@ def packs_of(text: bytes) -> list[bytes]:
 
 
 class Library:
+    """The calls of the library. Each returns its outputs and its answer."""
+
     def __init__(self, path: pathlib.Path) -> None:
         self.calls = ctypes.CDLL(str(path))
 
-    def readings(self, readings: Sequence[bytes]) -> tuple[list[bytes], list[int], Told, int]:
+    def mend_readings(self, readings: Sequence[bytes]) -> tuple[list[bytes], list[int], Counts, int]:
         joined = b"".join(readings)
         words = len(readings[0]) // 24 - 7
-        packs, sources, told = ctypes.create_string_buffer(24 * words), ctypes.create_string_buffer(words), Told()
+        packs, sources, counts = ctypes.create_string_buffer(24 * words), ctypes.create_string_buffer(words), Counts()
         size = ctypes.c_size_t
         length, room = size(len(joined)), size(24 * words)
         status = self.calls.ribjasper_mend_readings(
-            joined, length, len(readings), 0, packs, room, sources, size(words), ctypes.byref(told)
+            joined, length, len(readings), 0, packs, room, sources, size(words), ctypes.byref(counts)
         )
-        return packs_of(packs.raw), list(sources.raw), told, status
+        return packs_of(packs.raw), list(sources.raw), counts, status
 
-    def stream(self, readings: Sequence[bytes], lead_in: int) -> tuple[bytes, list[int], Told, int]:
+    def mend_stream(self, readings: Sequence[bytes], lead_in: int) -> tuple[bytes, list[int], Counts, int]:
         joined, length = b"".join(readings), len(readings[0])
         words = max(0, (length - 96 * lead_in) // 24 - 7)
-        blocks, sources, told = ctypes.create_string_buffer(length), ctypes.create_string_buffer(max(1, words)), Told()
+        blocks, sources, counts = ctypes.create_string_buffer(length), ctypes.create_string_buffer(max(1, words)), Counts()
         size = ctypes.c_size_t
         status = self.calls.ribjasper_mend_stream(
             joined,
@@ -395,18 +405,18 @@ class Library:
             size(length),
             sources,
             size(words),
-            ctypes.byref(told),
+            ctypes.byref(counts),
         )
-        return blocks.raw, list(sources.raw[:words]), told, status
+        return blocks.raw, list(sources.raw[:words]), counts, status
 
-    def pair(self, first: bytes, second: bytes) -> tuple[list[bytes], Pair, int]:
+    def mend_pair(self, first: bytes, second: bytes) -> tuple[list[bytes], PairCounts, int]:
         words = len(first) // 24 - 7
-        packs, told = ctypes.create_string_buffer(24 * words), Pair()
+        packs, counts = ctypes.create_string_buffer(24 * words), PairCounts()
         size = ctypes.c_size_t
         status = self.calls.ribjasper_mend(
-            first, size(len(first)), second, size(len(second)), 0, packs, size(24 * words), ctypes.byref(told)
+            first, size(len(first)), second, size(len(second)), 0, packs, size(24 * words), ctypes.byref(counts)
         )
-        return packs_of(packs.raw), told, status
+        return packs_of(packs.raw), counts, status
 
 
 def wrong(packs: Sequence[bytes], truth: Sequence[bytes]) -> int:
@@ -414,69 +424,69 @@ def wrong(packs: Sequence[bytes], truth: Sequence[bytes]) -> int:
 
 
 class Tally:
-    """The numbers of wrong words in the result, and in the best single reading."""
+    """Compares the numbers of wrong words in the results and in the best single readings."""
 
     def __init__(self) -> None:
         self.cases = self.words = self.fewer = self.worse = self.more = 0
 
-    def add(self, words: int, mended: int, alone: int) -> None:
+    def add(self, words: int, mended: int, best: int) -> None:
         self.cases += 1
         self.words += words
-        self.fewer += max(0, alone - mended)
-        self.worse += mended > alone
-        self.more += max(0, mended - alone)
+        self.fewer += max(0, best - mended)
+        self.worse += mended > best
+        self.more += max(0, mended - best)
 
     def __str__(self) -> str:
         return (
-            f"{self.cases} cases of {self.words} words: {self.fewer} fewer are wrong than in the best reading alone, "
+            f"{self.cases} cases of {self.words} words: {self.fewer} wrong words fewer than in the best single readings, "
             f"and in {self.worse} cases {self.more} more"
         )
 
 
 def stream_differs(library: Library, readings: Sequence[bytes], lead_in: int, errors: Errors) -> bool:
-    """Whether the stream from the library, or its sources and counts, differ from the rule."""
+    """Whether the stream of the library, its sources or its counts differ from the rule."""
     length = len(readings[0])
-    blocks, sources, told, status = library.stream(readings, lead_in)
-    right, right_sources = mended_stream(readings, lead_in, errors)
+    blocks, sources, counts, status = library.mend_stream(readings, lead_in)
+    expected, expected_sources = mended_stream(readings, lead_in, errors)
     return (
-        blocks != right
+        blocks != expected
         # The order of the readings changes no byte.
-        or library.stream(readings[::-1], lead_in)[0] != right
-        or sources != right_sources
-        or status != (NONE in right_sources)
-        or (told.bytes, told.blocks, told.none) != (length, length // 96 - lead_in, right_sources.count(NONE))
+        or library.mend_stream(readings[::-1], lead_in)[0] != expected
+        or sources != expected_sources
+        or status != (NONE in expected_sources)
+        or (counts.bytes, counts.blocks, counts.none) != (length, length // 96 - lead_in, expected_sources.count(NONE))
     )
 
 
 def differs(
     library: Library,
     readings: Sequence[bytes],
-    got: Sequence[bytes],
+    packs: Sequence[bytes],
     sources: Sequence[int],
-    told: Told,
+    counts: Counts,
     status: int,
     errors: Errors,
 ) -> bool:
     """Whether any result of the library differs from the rule."""
-    packs, right_sources, left = mend(readings, errors)
-    pair_packs, pair, pair_status = library.pair(readings[0], readings[1])
+    expected, expected_sources, expected_dropped = mend(readings, errors)
+    pair_packs, pair, pair_status = library.mend_pair(readings[0], readings[1])
     two, two_sources, _ = mend(readings[:2], errors)
-    turned = library.readings(readings[::-1])[0]
+    reversed_packs = library.mend_readings(readings[::-1])[0]
     count = len(readings)
     return (
-        list(got) != packs
-        or list(sources) != right_sources
-        or status != (NONE in right_sources)
-        or list(told.dropped) != left + [0] * (MOST - count)
-        or list(told.of_reading) != [right_sources.count(r) for r in range(MOST)]
-        or (told.agreed, told.none, told.reserved) != (right_sources.count(AGREED), right_sources.count(NONE), 0)
-        or (told.bytes, told.blocks) != (24 * len(packs), len(readings[0]) // 96)
+        list(packs) != expected
+        or list(sources) != expected_sources
+        or status != (NONE in expected_sources)
+        or list(counts.dropped) != expected_dropped + [0] * (MAX_READINGS - count)
+        or list(counts.of_reading) != [expected_sources.count(r) for r in range(MAX_READINGS)]
+        or (counts.agreed, counts.none, counts.reserved) != (expected_sources.count(AGREED), expected_sources.count(NONE), 0)
+        or (counts.bytes, counts.blocks) != (24 * len(expected), len(readings[0]) // 96)
         or pair_packs != two
         or pair_status != (NONE in two_sources)
         or pair.both + pair.of_first + pair.of_second != sum(source < AGREED for source in two_sources)
         or (pair.agreed, pair.none) != (two_sources.count(AGREED), two_sources.count(NONE))
         # The order of the readings changes no pack.
-        or turned != list(got)
+        or reversed_packs != list(packs)
         or stream_differs(library, readings, 0, errors)
         or stream_differs(library, readings, len(readings[0]) // 96 - 2, errors)
     )
@@ -492,22 +502,22 @@ def main() -> int:
     errors = all_errors()
     words = [codeword(source) for _ in range(40)]
     library = Library(arguments.library)
-    own, foreign = Tally(), Tally()
+    same_stream, foreign = Tally(), Tally()
     different = 0
     for case in range(arguments.cases):
         truth = stream(source, source.randrange(3, 10), source.choice((0.1, 0.5, 1)), words)
         right = [word_at(truth, n) for n in range(len(truth) // 24 - 7)]
         kinds = source.choices(list(KINDS), list(KINDS.values()), k=source.randrange(2, 5))
         readings = [reading(source, truth, kind, words) for kind in kinds]
-        got, sources, told, status = library.readings(readings)
-        if differs(library, readings, got, sources, told, status, errors):
+        packs, sources, counts, status = library.mend_readings(readings)
+        if differs(library, readings, packs, sources, counts, status, errors):
             different += 1
             print(f"case {case}: {', '.join(kinds)}: differs from the rule")
-        alone = min(wrong(library.readings([one])[0], right) for one in readings)
-        tally = foreign if FOREIGN & set(kinds) else own
-        tally.add(len(right), wrong(got, right), alone)
-    print(f"readings of one stream: {own}")
-    print(f"with a reading that is shifted or another stream's: {foreign}")
+        best = min(wrong(library.mend_readings([one])[0], right) for one in readings)
+        tally = foreign if FOREIGN & set(kinds) else same_stream
+        tally.add(len(right), wrong(packs, right), best)
+    print(f"readings of one stream: {same_stream}")
+    print(f"with a shifted reading or a reading of another stream: {foreign}")
     print(f"{arguments.cases} cases, {different} differ from the rule")
     return 1 if different else 0
 
