@@ -1,12 +1,14 @@
 #!/usr/bin/env python3
-"""Tries the rule of mending on random readings of known streams: mending_cases.py [--cases N] [--seed N] [--desk]
+"""Tests the rule of mending on random readings of known streams: mending_cases.py [--cases N] [--seed N] [--desk]
 
-The rule is written here a second time, with numpy; no code is shared with the desk or the library. Each case is a
-stream of some blocks with busy and idle stretches, and two to five readings of it with several kinds of damage. With
---desk, the readings are files of several forms that the command of the desk mends; its output and report must be those
-of the rule. For cases with blocks or channels R to W of another place or disc, it counts why a reading is better than
-the result. The exit status is 1 if a perfect reading loses a word that no graphics pack contradicts, if the result has
-fewer correct words than the best reading, or if a reported number is not true."""
+The rule (include/ribjasper.h, Mending) is implemented here once more, with numpy; no code is shared with the desk or
+the library. Each case is a stream with busy and idle stretches, and two to five readings of it with several kinds of
+damage. With --desk, the readings are written as files of several forms, and the command `mend` of the desk mends them;
+its output and its report must be those of the rule. In some cases, blocks or channels R to W come from another place
+or disc. For these the script counts the reasons why a reading is better than the result.
+
+The exit status is 1 if a perfect reading loses a word that no graphics pack contradicts, if the result has fewer
+correct words than the best reading, or if a reported number is wrong."""
 import argparse
 import binascii
 import contextlib
@@ -40,7 +42,8 @@ AGREED, NONE = 254, 255
 KNOWN = (1, 2, 6, 20, 24, 28, 30, 31, 38)
 # The modes and items that discs use: line graphics, graphics, extended graphics, MIDI.
 USED = (8, 9, 10, 24)
-SILENT, LOST, NEAR = 0, 1, 2
+# A word is unread, or far from every codeword, or near one.
+UNREAD, FAR, NEAR = 0, 1, 2
 # The message of the desk about files whose form is unknown.
 NO_DUMP = "no known form fits", "all bytes are zeros"
 
@@ -91,9 +94,9 @@ def bcd(value: int) -> int:
 
 def q_bits(block: int) -> Array:
     minute, second, frame = block // 4500, block // 75 % 60, block % 75
-    own = bytes([1, 1, 1, bcd(minute), bcd(second), bcd(frame), 0, bcd(minute), bcd(second), bcd(frame)])
-    own += (binascii.crc_hqx(own, 0) ^ 0xFFFF).to_bytes(2, "big")
-    return np.unpackbits(np.frombuffer(own, np.uint8)) << 6
+    content = bytes([1, 1, 1, bcd(minute), bcd(second), bcd(frame), 0, bcd(minute), bcd(second), bcd(frame)])
+    content += (binascii.crc_hqx(content, 0) ^ 0xFFFF).to_bytes(2, "big")
+    return np.unpackbits(np.frombuffer(content, np.uint8)) << 6
 
 
 @dataclass
@@ -103,7 +106,7 @@ class Truth:
 
 
 def truth_of(chance: random.Random, blocks: int, modes: bool, start: int = 200) -> Truth:
-    """A stream with busy and idle stretches; also packs that begin before its first block and end behind its last."""
+    """A stream with busy and idle stretches. Some packs begin before its first block, or end after its last one."""
     slots = 4 * blocks + 7
     words = np.zeros((slots, 24), np.uint8)
     at = 0
@@ -142,7 +145,7 @@ def stretch(chance: random.Random, blocks: int) -> tuple[int, int]:
 
 def damage(chance: random.Random, truth: Truth, kind: str, out: Reading) -> None:
     stream = out.stream
-    size, blocks = len(stream), len(stream) // 96
+    blocks = len(stream) // 96
     first, end = stretch(chance, blocks)
     part = slice(96 * first, 96 * end)
     rng = np.random.default_rng(chance.randrange(1 << 30))
@@ -222,14 +225,14 @@ def reading_of(chance: random.Random, truth: Truth) -> Reading:
 
 
 @dataclass
-class Heard:
-    """What a reading has at each word."""
+class Decoded:
+    """The words of a reading: their symbols and kinds, and the pack, wrong symbols and distance of the nearest codeword."""
 
     word: Array
     kind: Array
     pack: Array
     wrong: Array
-    doubts: Array
+    distance: Array
     unread: Array
 
 
@@ -241,7 +244,7 @@ def has_used_mode(packs: Array) -> Array:
     return np.isin(packs[:, 0], USED)
 
 
-def hear(stream: Array, mask: Optional[Array] = None) -> Heard:
+def decode(stream: Array, mask: Optional[Array] = None) -> Decoded:
     words = max(0, len(stream) // 24 - 7)
     n = np.arange(words)
     symbols = stream & 63
@@ -259,12 +262,12 @@ def hear(stream: Array, mask: Optional[Array] = None) -> Heard:
     for k in (0, 2):
         right[n, error[:, k]] ^= np.where(near, error[:, k + 1], 0).astype(np.uint8)
     wrong = np.where(near, (right != word).sum(axis=1), 0)
-    kind = np.where(near, NEAR, LOST)
-    kind[under.all(axis=0)] = SILENT
-    doubts = wrong.copy()
+    kind = np.where(near, NEAR, FAR)
+    kind[under.all(axis=0)] = UNREAD
+    distance = wrong.copy()
     idle = is_idle(right)
-    doubts[idle & under.any(axis=0)] = 3
-    return Heard(word, kind, right, wrong, doubts, under.all(axis=0))
+    distance[idle & under.any(axis=0)] = 3
+    return Decoded(word, kind, right, wrong, distance, under.all(axis=0))
 
 
 @dataclass
@@ -275,18 +278,18 @@ class Result:
     graphics: Array
 
 
-def graphics_of(own: Heard) -> Array:
-    """The words at which a reading has graphics."""
-    known = (own.pack[:, 0] == 9) & np.isin(own.pack[:, 1], KNOWN)
-    clean = (own.doubts == 0) & ~is_idle(own.pack)
-    return (own.kind == NEAR) & (known | clean)
+def graphics_of(reading: Decoded) -> Array:
+    """The words at which a reading has a graphics pack, or another codeword at distance 0 that is not idle."""
+    known = (reading.pack[:, 0] == 9) & np.isin(reading.pack[:, 1], KNOWN)
+    clean = (reading.distance == 0) & ~is_idle(reading.pack)
+    return (reading.kind == NEAR) & (known | clean)
 
 
-def drops(own: Heard, graphics: Array) -> Array:
-    """The words at which an idle pack of the reading does not count: it misses graphics in the same run of quiet
-    words."""
-    idle = (own.kind == NEAR) & is_idle(own.pack)
-    quiet = idle | (own.kind == SILENT)
+def lacks_graphics(reading: Decoded, graphics: Array) -> Array:
+    """The words at which a reading has the idle pack and lacks graphics: it misses graphics at a word of the same quiet
+    stretch."""
+    idle = (reading.kind == NEAR) & is_idle(reading.pack)
+    quiet = idle | (reading.kind == UNREAD)
     misses = idle & graphics
     edges = np.flatnonzero(np.diff(np.concatenate(([0], quiet.astype(np.int8), [0]))))
     found = np.zeros(len(idle), bool)
@@ -296,96 +299,97 @@ def drops(own: Heard, graphics: Array) -> Array:
 
 
 def mend(readings: Sequence[Array], masks: Optional[Sequence[Array]] = None) -> Result:
-    heard = [hear(stream, masks[k] if masks else None) for k, stream in enumerate(readings)]
-    words = len(heard[0].kind)
+    decoded = [decode(stream, masks[k] if masks else None) for k, stream in enumerate(readings)]
+    words = len(decoded[0].kind)
     graphics = np.zeros(words, bool)
-    for own in heard:
-        graphics |= graphics_of(own)
-    lacking = np.stack([drops(own, graphics) for own in heard])
-    quiet = np.stack([(own.kind == SILENT) | (own.kind == NEAR) & is_idle(own.pack) for own in heard]).any(axis=0)
+    for reading in decoded:
+        graphics |= graphics_of(reading)
+    lacks = np.stack([lacks_graphics(reading, graphics) for reading in decoded])
+    quiet = np.stack([(reading.kind == UNREAD) | (reading.kind == NEAR) & is_idle(reading.pack) for reading in decoded]).any(axis=0)
     doubtful = np.stack(
-        [(own.kind == NEAR) & ~is_idle(own.pack) & (own.doubts > 0) & ~has_used_mode(own.pack) for own in heard]
+        [(reading.kind == NEAR) & ~is_idle(reading.pack) & (reading.distance > 0) & ~has_used_mode(reading.pack) for reading in decoded]
     )
-    dropped = lacking | doubtful & quiet
+    dropped = lacks | doubtful & quiet
     packs, sources = np.zeros((words, 24), np.uint8), np.full(words, NONE)
-    kinds = np.stack([own.kind for own in heard])
-    kinds[dropped] = SILENT
-    doubts = np.stack([own.doubts for own in heard])
-    some = np.stack([own.pack for own in heard])
-    easy = (kinds == NEAR).all(axis=0) & (some == some[0]).all(axis=(0, 2)) & (doubts == doubts[0]).all(axis=0)
+    kinds = np.stack([reading.kind for reading in decoded])
+    kinds[dropped] = UNREAD  # these codewords do not count
+    distances = np.stack([reading.distance for reading in decoded])
+    some = np.stack([reading.pack for reading in decoded])
+    easy = (kinds == NEAR).all(axis=0) & (some == some[0]).all(axis=(0, 2)) & (distances == distances[0]).all(axis=0)
     packs[easy], sources[easy] = some[0][easy], 0
     for n in np.flatnonzero(~easy):
         packs[n], sources[n] = choose(
-            [heard[r].word[n] for r in range(len(heard))], kinds[:, n], some[:, n], doubts[:, n]
+            [decoded[r].word[n] for r in range(len(decoded))], kinds[:, n], some[:, n], distances[:, n]
         )
     return Result(packs, sources, dropped, graphics)
 
 
-def choose(words: Sequence[Array], kinds: Array, packs: Array, doubts: Array) -> tuple[Array, int]:
+def choose(words: Sequence[Array], kinds: Array, packs: Array, distances: Array) -> tuple[Array, int]:
+    """The pack of a word and its source."""
     nothing = np.zeros(24, np.uint8), NONE
-    given = {r: (packs[r].tobytes(), int(doubts[r])) for r in range(len(kinds)) if kinds[r] == NEAR}
-    if given:
-        fewest = min(it[1] for it in given.values())
-        best = {it[0] for it in given.values() if it[1] == fewest}
-        votes = {own: sum(it[0] == own for it in given.values()) for own in best}
-        most = [own for own in best if votes[own] == max(votes.values())]
+    candidates = {r: (packs[r].tobytes(), int(distances[r])) for r in range(len(kinds)) if kinds[r] == NEAR}
+    if candidates:
+        smallest = min(distance for _, distance in candidates.values())
+        best = {codeword for codeword, distance in candidates.values() if distance == smallest}
+        votes = {codeword: sum(it[0] == codeword for it in candidates.values()) for codeword in best}
+        most = [codeword for codeword in best if votes[codeword] == max(votes.values())]
         if len(most) > 1:
             return nothing
-        return np.frombuffer(most[0], np.uint8), min(r for r, it in given.items() if it == (most[0], fewest))
-    lost = [words[r].tobytes() for r in range(len(kinds)) if kinds[r] == LOST]
-    found = {agreement(a, b, ALL_ERRORS) for a, b in itertools.combinations(lost, 2)} - {None}
+        return np.frombuffer(most[0], np.uint8), min(r for r, it in candidates.items() if it == (most[0], smallest))
+    far = [words[r].tobytes() for r in range(len(kinds)) if kinds[r] == FAR]
+    found = {agreement(a, b, ALL_ERRORS) for a, b in itertools.combinations(far, 2)} - {None}
     if len(found) == 1:
         return np.frombuffer(found.pop(), np.uint8), AGREED
     return nothing
 
 
-def alone(own: Heard) -> Array:
-    """The packs of one reading."""
-    return np.where((own.kind == NEAR)[:, None], own.pack, 0)
+def packs_of(reading: Decoded) -> Array:
+    """The packs of one reading, and zeros for words without a codeword."""
+    return np.where((reading.kind == NEAR)[:, None], reading.pack, 0)
 
 
-def arranged(chance: random.Random, stream: Array, has_q: bool) -> tuple[bytes, str]:
-    """A reading as a file: raw or planar, whole; or, if Q gives its place, without its beginning or end, or with its
-    two halves exchanged."""
-    blocks, told = len(stream) // 96, "whole"
-    if has_q and blocks >= 150:
+def arranged(chance: random.Random, stream: Array, is_movable: bool) -> tuple[bytes, str]:
+    """A reading as a file, raw or planar, and its arrangement. If Q shows the places of its blocks (`is_movable`), the file
+    may lack the beginning or the end, or its two halves may be exchanged."""
+    blocks, arrangement = len(stream) // 96, "whole"
+    if is_movable and blocks >= 150:
         kind = chance.choice(("whole", "whole", "later", "shorter", "halves exchanged"))
         cut = chance.randrange(blocks // 3, 2 * blocks // 3)
         if kind == "later":
-            stream, told = stream[96 * cut :], f"from {cut} on"
+            stream, arrangement = stream[96 * cut :], f"from {cut} on"
         elif kind == "shorter":
-            stream, told = stream[: 96 * cut], f"up to {cut}"
+            stream, arrangement = stream[: 96 * cut], f"up to {cut}"
         elif kind == "halves exchanged":
-            stream, told = np.concatenate((stream[96 * cut :], stream[: 96 * cut])), f"exchanged at {cut}"
+            stream, arrangement = np.concatenate((stream[96 * cut :], stream[: 96 * cut])), f"exchanged at {cut}"
     if chance.random() < 0.2:
         bits = np.unpackbits(stream.reshape(-1, 96, 1), axis=2)
-        return bytes(np.packbits(bits.transpose(0, 2, 1), axis=2)), f"{told}, planar"
-    return bytes(stream), told
+        return bytes(np.packbits(bits.transpose(0, 2, 1), axis=2)), f"{arrangement}, planar"
+    return bytes(stream), arrangement
 
 
-def seen(content: bytes, told: str, truth: Truth) -> Array:
-    """The same file as blocks aligned with those of the truth, with zeros where it has none."""
+def realigned(content: bytes, arrangement: str, truth: Truth) -> Array:
+    """The blocks of such a file at the places of the truth, and zeros for missing blocks."""
     blocks = len(truth.stream) // 96
-    if told.endswith("planar"):
+    if arrangement.endswith("planar"):
         bits = np.unpackbits(np.frombuffer(content, np.uint8).reshape(-1, 8, 12), axis=2)
         stream = np.packbits(bits.transpose(0, 2, 1), axis=2).ravel()
     else:
         stream = np.frombuffer(content, np.uint8)
     out = np.zeros(96 * blocks, np.uint8)
-    at = int("".join(it for it in told if it.isdigit()) or 0)
-    if told.startswith("from"):
+    at = int("".join(it for it in arrangement if it.isdigit()) or 0)
+    if arrangement.startswith("from"):
         out[96 * at :] = stream
-    elif told.startswith("up"):
+    elif arrangement.startswith("up"):
         out[: 96 * at] = stream
-    elif told.startswith("exchanged"):
+    elif arrangement.startswith("exchanged"):
         out[96 * at :], out[: 96 * at] = stream[: 96 * (blocks - at)], stream[96 * (blocks - at) :]
     else:
         out[:] = stream
     return out
 
 
-class Told(NamedTuple):
-    """The result of a call of the desk."""
+class DeskResult(NamedTuple):
+    """The result of a command of the desk: its status, the packs, the rows of the report, and the lines on standard error."""
 
     status: int
     packs: Array
@@ -393,8 +397,8 @@ class Told(NamedTuple):
     lines: str
 
 
-def of_desk(folder: pathlib.Path, contents: Sequence[bytes]) -> Told:
-    """The packs of some files, from the command."""
+def run_desk(folder: pathlib.Path, contents: Sequence[bytes]) -> DeskResult:
+    """Mends some files with the command of the desk."""
     names = []
     for number, content in enumerate(contents):
         path = folder / f"{number}.dump"
@@ -406,85 +410,85 @@ def of_desk(folder: pathlib.Path, contents: Sequence[bytes]) -> Told:
         status = desk.followed(["mend", *names, "-o", str(out), "--force", "--skip", "0"])
     rows = [line.split("\t") for line in table.getvalue().splitlines()]
     content = out.read_bytes() if out.exists() else b""
-    return Told(status, np.frombuffer(content, np.uint8).reshape(-1, 24), rows, lines.getvalue())
+    return DeskResult(status, np.frombuffer(content, np.uint8).reshape(-1, 24), rows, lines.getvalue())
 
 
-def perfect_losses(heard: Sequence[Heard], result: Array, truth: Truth) -> tuple[int, int, int]:
+def perfect_losses(decoded: Sequence[Decoded], result: Array, truth: Truth) -> tuple[int, int, int]:
     """The number of perfect readings; how many of them lost a word; and how many of these lost a word that no graphics
     pack of another reading contradicts."""
     perfect = broken = unexplained = 0
-    for own in heard:
-        if not (own.word == truth.words).all():
+    for reading in decoded:
+        if not (reading.word == truth.words).all():
             continue
         perfect += 1
         lost = (result != truth.words).any(axis=1)
         broken += bool(lost.any())
         contradicted = np.zeros(len(lost), bool)
-        for other in heard:
-            if other is not own:
+        for other in decoded:
+            if other is not reading:
                 contradicted |= graphics_of(other) & (other.pack != truth.words).any(axis=1)
         unexplained += bool((lost & ~contradicted).any())
     return perfect, broken, unexplained
 
 
-def lost_of(heard: Sequence[Heard], result: Result) -> list[int]:
+def lost_of(decoded: Sequence[Decoded], result: Result) -> list[int]:
     """For each reading, the number of error-free words that count and are not in the result."""
     found = []
-    for own, dropped in zip(heard, result.dropped):
-        differs = (result.packs != own.pack).any(axis=1) | (result.sources == NONE)
-        found.append(int(((own.kind == NEAR) & (own.doubts == 0) & ~dropped & differs).sum()))
+    for reading, dropped in zip(decoded, result.dropped):
+        differs = (result.packs != reading.pack).any(axis=1) | (result.sources == NONE)
+        found.append(int(((reading.kind == NEAR) & (reading.distance == 0) & ~dropped & differs).sum()))
     return found
 
 
-def reason(heard: Sequence[Heard], best: int, result: Result, n: int) -> str:
-    """Why the result lacks a word that the best reading has right, by the rule."""
-    own, source = heard[best], result.sources[n]
-    if own.kind[n] != NEAR:
-        return "the best reading has no codeword, and its zeros are right"
+def reason(decoded: Sequence[Decoded], best: int, result: Result, n: int) -> str:
+    """The reason, by the rule, why a word that the best reading has right is wrong in the result."""
+    reading, source = decoded[best], result.sources[n]
+    if reading.kind[n] != NEAR:
+        return "the best reading has no codeword there, and the word is idle"
     if result.dropped[best, n]:
-        return "idle, or doubtful, beside another reading that contradicts it"
+        return "the idle or doubtful pack of the best reading does not count"
     if source == NONE:
-        return "codewords with as few wrong symbols and as many votes"
-    if source < AGREED and heard[source].doubts[n] < own.doubts[n]:
-        return "another codeword has fewer wrong symbols"
-    if source < AGREED and heard[source].doubts[n] == own.doubts[n]:
+        return "another codeword has the same distance and as many votes"
+    if source < AGREED and decoded[source].distance[n] < reading.distance[n]:
+        return "another codeword has a smaller distance"
+    if source < AGREED and decoded[source].distance[n] == reading.distance[n]:
         return "another codeword has more votes"
     return "unexplained"
 
 
-def compare_elsewhere(
+def compare_misplaced(
     totals: Counter[str],
     show: bool,
     names: list[list[str]],
-    told: Told,
-    heard: Sequence[Heard],
+    desk_result: DeskResult,
+    decoded: Sequence[Decoded],
     result: Result,
     truth: Truth,
 ) -> None:
-    """Counts the cases with blocks or R-W of another place or disc in which the best reading is better, and why."""
-    if told.status not in (0, 1) or len(told.packs) != len(truth.words):
-        # The output is shorter if blocks at an end are left out, because no frame and no word shows their place.
-        is_reported = "blocks are left out" in told.lines
-        totals["elsewhere: reported blocks left out" if is_reported else "elsewhere: other length"] += 1
+    """Counts the cases with blocks or R-W of another place or disc in which the best reading is better, with the reasons."""
+    if desk_result.status not in (0, 1) or len(desk_result.packs) != len(truth.words):
+        # The output is shorter if `mend` omits blocks at an end, because no frame and no word shows their place.
+        is_reported = "blocks are omitted" in desk_result.lines
+        totals["misplaced: blocks omitted and reported" if is_reported else "misplaced: other length"] += 1
         return
-    totals["elsewhere: cases"] += 1
-    whole = [(alone(own) == truth.words).all(axis=1) for own in heard]
-    best = max(range(len(heard)), key=lambda number: int(whole[number].sum()))
-    right = (told.packs == truth.words).all(axis=1)
+    totals["misplaced: cases"] += 1
+    whole = [(packs_of(reading) == truth.words).all(axis=1) for reading in decoded]
+    best = max(range(len(decoded)), key=lambda number: int(whole[number].sum()))
+    right = (desk_result.packs == truth.words).all(axis=1)
     if right.sum() >= whole[best].sum():
         return
-    totals["elsewhere: fewer correct words than the best reading"] += 1
-    if "seem not to be of one disc" in told.lines:
-        totals["elsewhere: of these refused without --force"] += 1
-    placed = bool((told.packs != result.packs).any())
+    totals["misplaced: fewer correct words than the best reading"] += 1
+    if "seem not to be of one disc" in desk_result.lines:
+        totals["misplaced: of these, refused without --force"] += 1
+    is_moved = bool((desk_result.packs != result.packs).any())
     reasons = {
-        "the pieces of a reading stand where their frames say" if placed else reason(heard, best, result, n)
+        "the command has placed blocks by their frames" if is_moved else reason(decoded, best, result, n)
         for n in np.flatnonzero(whole[best] & ~right)
     }
     for name in reasons:
-        totals[f"elsewhere: fewer, {name}"] += 1
+        totals[f"misplaced: fewer, {name}"] += 1
     if show:
-        print("elsewhere", int(whole[best].sum()), int(right.sum()), sorted(reasons), names)
+        print("misplaced", int(whole[best].sum()), int(right.sum()), sorted(reasons), names)
 
 
 def case(chance: random.Random, totals: Counter[str], show: bool, folder: Optional[pathlib.Path]) -> None:
@@ -493,89 +497,89 @@ def case(chance: random.Random, totals: Counter[str], show: bool, folder: Option
     readings = [reading_of(chance, truth) for _ in range(chance.choice((2, 2, 2, 3, 3, 4, 5)))]
     names = [it.done for it in readings]
     streams = [it.stream for it in readings]
-    elsewhere = any(word in done for it in names for done in it for word in ("foreign", "shifted", "stale"))
+    misplaced = any(word in done for it in names for done in it for word in ("foreign", "shifted", "stale"))
     if folder:
-        has_q = not any("no Q" in done or "bad Q" in done for it in names for done in it) and not elsewhere
-        # The first one is whole, so it contains all of the truth.
-        told = [
+        has_q = not any("no Q" in done or "bad Q" in done for it in names for done in it) and not misplaced
+        # The first file has all blocks of the truth in their order.
+        movable = [
             has_q and number > 0 and (it.reshape(-1, 96) & 0x40).any(axis=1).mean() > 0.5
             for number, it in enumerate(streams)
         ]
-        files = [arranged(chance, it, own) for it, own in zip(streams, told)]
-        streams = [seen(content, told, truth) for content, told in files]
-        names = [[*done, told] for done, (_, told) in zip(names, files)]
-    heard = [hear(it) for it in streams]
+        files = [arranged(chance, it, is_movable) for it, is_movable in zip(streams, movable)]
+        streams = [realigned(content, arrangement, truth) for content, arrangement in files]
+        names = [[*done, arrangement] for done, (_, arrangement) in zip(names, files)]
+    decoded = [decode(it) for it in streams]
     result = mend(streams)
     packs = result.packs
     if folder:
-        result_of = of_desk(folder, [content for content, _ in files])
-        if result_of.status == 9 or any(it in result_of.lines for it in NO_DUMP):
-            totals["refused: nothing to mend" if result_of.status == 9 else "refused: no dump"] += 1
+        desk_result = run_desk(folder, [content for content, _ in files])
+        if desk_result.status == 9 or any(it in desk_result.lines for it in NO_DUMP):
+            totals["refused: nothing to mend" if desk_result.status == 9 else "refused: no dump"] += 1
             return
-        if elsewhere:
-            compare_elsewhere(totals, show, names, result_of, heard, result, truth)
+        if misplaced:
+            compare_misplaced(totals, show, names, desk_result, decoded, result, truth)
             return
-        if result_of.status not in (0, 1) or len(result_of.packs) != len(truth.words):
-            totals[f"other length or status {result_of.status}"] += 1
+        if desk_result.status not in (0, 1) or len(desk_result.packs) != len(truth.words):
+            totals[f"other length or status {desk_result.status}"] += 1
             if show:
-                print("status", result_of.status, len(result_of.packs), len(truth.words), names, result_of.lines[-300:])
+                print("status", desk_result.status, len(desk_result.packs), len(truth.words), names, desk_result.lines[-300:])
             return
-        packs = result_of.packs
-        check_numbers(totals, show, names, result_of, heard, result)
+        packs = desk_result.packs
+        check_numbers(totals, show, names, desk_result, decoded, result)
     right = (packs == truth.words).all(axis=1)
     totals["cases"] += 1
     totals["words"] += len(right)
-    best = max(int((alone(own) == truth.words).all(axis=1).sum()) for own in heard)
-    kind = "elsewhere: " if elsewhere else ""
+    best = max(int((packs_of(reading) == truth.words).all(axis=1).sum()) for reading in decoded)
+    kind = "misplaced: " if misplaced else ""
     if right.sum() < best:
         totals[f"{kind}fewer correct words than the best reading"] += 1
         if show:
             print("fewer", best, int(right.sum()), names)
     silent = ~right & (result.sources != NONE)
-    totals[f"{kind}wrong words that are not reported"] += int(silent.sum())
-    totals[f"{kind}cases with more than 20 of these"] += int(silent.sum() > 20)
+    totals[f"{kind}unreported wrong words"] += int(silent.sum())
+    totals[f"{kind}cases with more than 20 unreported wrong words"] += int(silent.sum() > 20)
     if silent.sum() > 20 and show:
         print("wrong", int(silent.sum()), names)
-    totals[f"{kind}cases with some and status 0"] += bool(silent.any() and not (result.sources == NONE).any())
-    perfect, broken, unexplained = perfect_losses(heard, packs, truth)
+    totals[f"{kind}cases with unreported wrong words and status 0"] += bool(silent.any() and not (result.sources == NONE).any())
+    perfect, broken, unexplained = perfect_losses(decoded, packs, truth)
     totals[f"{kind}perfect readings"] += perfect
-    totals[f"{kind}perfect readings that do not come out whole"] += broken
-    totals[f"{kind}of these without a graphics pack against them"] += unexplained
+    totals[f"{kind}perfect readings that lost words"] += broken
+    totals[f"{kind}of these without a contradicting graphics pack"] += unexplained
     if unexplained and show:
         print("perfect", unexplained, names)
     totals["words with no codeword"] += int((result.sources == NONE).sum())
 
 
 def check_numbers(
-    totals: Counter[str], show: bool, names: list[list[str]], told: Told, heard: Sequence[Heard], result: Result
+    totals: Counter[str], show: bool, names: list[list[str]], desk_result: DeskResult, decoded: Sequence[Decoded], result: Result
 ) -> None:
     """Compares the report of the command with the rule."""
-    counts = [[int(cell) for cell in row[1:]] for row in told.rows[1:]]
+    counts = [[int(cell) for cell in row[1:]] for row in desk_result.rows[1:]]
     none = int((result.sources == NONE).sum())
-    wanted = [
-        (len(result.sources), int(dropped.sum()), lost) for dropped, lost in zip(result.dropped, lost_of(heard, result))
+    expected = [
+        (len(result.sources), int(dropped.sum()), lost) for dropped, lost in zip(result.dropped, lost_of(decoded, result))
     ]
-    given = [(row[0], row[2], row[3]) for row in counts]
+    reported = [(row[0], row[2], row[3]) for row in counts]
     agreed = int((result.sources == AGREED).sum())
-    found = re.search(r"(\d+) words have no codeword", told.lines)
+    found = re.search(r"(\d+) words have no codeword", desk_result.lines)
     same = (
-        given == wanted
-        and (told.packs == result.packs).all()
+        reported == expected
+        and (desk_result.packs == result.packs).all()
         and int(found[1] if found else 0) == none
         and sum(row[1] for row in counts) + agreed + none == len(result.sources)
-        and told.status == int(bool(none or any(row[2] for row in wanted)))
+        and desk_result.status == int(bool(none or any(row[2] for row in expected)))
     )
     if not same:
-        totals["calls that report otherwise than the rule"] += 1
+        totals["reports that differ from the rule"] += 1
         if show:
-            print("report", names, given, wanted, none, int((told.packs != result.packs).any(axis=1).sum()), told.lines)
+            print("report", names, reported, expected, none, int((desk_result.packs != result.packs).any(axis=1).sum()), desk_result.lines)
 
 
 def main() -> int:
-    parser = argparse.ArgumentParser()
+    parser = argparse.ArgumentParser(description=__doc__, formatter_class=argparse.RawDescriptionHelpFormatter)
     parser.add_argument("--cases", type=int, default=300)
     parser.add_argument("--seed", type=int, default=1)
-    parser.add_argument("--desk", action="store_true", help="mend files by the command, and compare what it reports")
+    parser.add_argument("--desk", action="store_true", help="mend files with the command, and compare its output and its report")
     parser.add_argument("--show", action="store_true", help="print the cases that are counted")
     words = parser.parse_args()
     totals: Counter[str] = Counter()
@@ -593,9 +597,9 @@ def main() -> int:
     failing = (
         "fewer correct",
         "of these without",
-        "calls that report",
+        "reports that differ",
         "other length",
-        "elsewhere: fewer, unexplained",
+        "misplaced: fewer, unexplained",
     )
     return int(any(count for name, count in totals.items() if name.startswith(failing)))
 
