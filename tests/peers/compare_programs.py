@@ -1,14 +1,14 @@
 #!/usr/bin/env python3
 """Compares two builds of the program on random calls: compare_programs.py OLD NEW [--calls N] [--seed S].
 
-Each call runs both programs on the same words and inputs; standard output, standard error and the exit status must be
-equal. The table shows how many calls of each command ended with each status, and the list below it how often each line
-was printed. A difference is reported with the command that shows it; its inputs are kept, and the exit status is then
-1. Calls that end out of memory in either program are not compared.
+Each call runs both programs with the same arguments and inputs; standard output, standard error and the exit status
+must be equal. The table shows how many calls of each command ended with each status. The list below it shows how often
+each line was printed. A difference is reported with the command line that shows it, and its inputs are kept; the exit
+status is then 1. If a call runs out of memory in either program, it is not compared.
 
-Inputs depend only on the seed and on OLD: its output of one call is an input of later ones, whole, worn, torn or mixed.
-No check of a format is computed here. The checks of Q frames, text packs and checkpoints are remainders, so three good
-ones combined by exclusive or have a good check again, mostly with fields out of range.
+Inputs depend only on the seed and on OLD. Its output of a call becomes an input of later calls: unchanged, damaged,
+shortened or mixed. No check of a format is computed here. The checks of Q frames, text packs and checkpoints are
+remainders. So the exclusive or of three valid ones has a valid check again, mostly with fields out of range.
 """
 import argparse
 import os
@@ -43,7 +43,7 @@ INSTRUCTIONS = (1, 2, 6, 20, 24, 28, 30, 31, 38)
 # The outputs of commands that write no stream: the kind of input that they are for later calls.
 PRODUCTS = dict(convert="cdg", merge="cdg", thin="cdg", save="saves", planar="planar", gen="scripts")
 
-# Values that are just valid, or just not.
+# Values at the limits of what is valid.
 ODD = {
     "N": ("450000", "450001", "0", "00", "01", "-1", "+1", "1x", "", " 1", "4294967296", "1" + 20 * "0"),
     "S": ("0", "18446744073709551615", "18446744073709551616", "00", "-7", "7.", "", "1" + 23 * "0"),
@@ -73,7 +73,7 @@ class Stream(NamedTuple):
 
 
 class Inputs(NamedTuple):
-    """The inputs of a call, and the option values that suit them."""
+    """The inputs of a call, and the option values that fit them."""
 
     first: bytes = b""
     second: bytes | None = None
@@ -83,7 +83,7 @@ class Inputs(NamedTuple):
 
 
 class Call(NamedTuple):
-    """A call: its command and all its words, its inputs, and whether its output is a full device."""
+    """A call: its command and all its arguments, its inputs, and whether its output is a full device."""
 
     command: str
     words: list[str | bytes]
@@ -129,7 +129,7 @@ def blocks_of(data: bytes) -> list[bytes]:
 
 
 class Texts:
-    """Cue sheets and picture scripts, valid and spoiled ones."""
+    """Cue sheets and picture scripts, valid and invalid ones."""
 
     def __init__(self, rng: random.Random) -> None:
         self.rng = rng
@@ -212,7 +212,7 @@ class Texts:
             lines.append(f"show {time_of(ready)} {time_of(at)}")
         return lines, at
 
-    def spoiled(self, lines: list[str]) -> list[str]:
+    def with_error(self, lines: list[str]) -> list[str]:
         """Lines with an error in one of them."""
         made = lines or [""]
         place = self.rng.randrange(len(made))
@@ -231,9 +231,9 @@ class Texts:
         return [*made[:place], *instead, *made[place + 1 :]]
 
     def written(self, lines: list[str], share: float = 0.25) -> bytes:
-        """Lines as a file; a share of the files is spoiled, and they begin and end in all ways that are allowed."""
+        """Lines as a file; a share of the files has an error, and they begin and end in all allowed ways."""
         if self.chance(share):
-            lines = self.spoiled(lines)
+            lines = self.with_error(lines)
         end = "\r\n" if self.chance(0.1) else "\n"
         text = end.join(lines) + ("" if self.chance(0.1) else end)
         return ("\ufeff" if self.chance(0.05) else "").encode() + text.encode()
@@ -267,7 +267,7 @@ class Maker:
         elif call.command in PRODUCTS:
             self.remember(self.pools[PRODUCTS[call.command]], output)
 
-    # Parts of inputs.
+    # Pieces of inputs.
 
     def noise(self, length: int) -> bytes:
         return self.rng.randbytes(length)
@@ -330,11 +330,11 @@ class Maker:
         return self.rng.choice(how)(data)
 
     def raw(self) -> Stream:
-        """A raw stream, unchanged or worn."""
-        taken = self.rng.choice(self.streams)
+        """A raw stream, unchanged or damaged."""
+        stream = self.rng.choice(self.streams)
         if self.chance(0.9):
-            taken = self.window(taken)
-        return Stream(self.worn(taken.data), taken.lead_in)
+            stream = self.window(stream)
+        return Stream(self.worn(stream.data), stream.lead_in)
 
     def pack(self) -> bytes:
         """A pack of a `.cdg` file without parity: idle, one of the instructions, or random bytes."""
@@ -416,10 +416,10 @@ class Maker:
         return Inputs(sheet, packs, lead_in, self.rng.choice((length, enough, enough, enough)))
 
     def two_readings(self) -> Inputs:
-        taken = self.window(self.rng.choice(self.streams))
+        window = self.window(self.rng.choice(self.streams))
         ways = self.rng.choices((self.flipped, self.worn), (3, 2), k=2)
-        first, second = (way(taken.data) for way in ways)
-        return Inputs(first, second, taken.lead_in)
+        first, second = (way(window.data) for way in ways)
+        return Inputs(first, second, window.lead_in)
 
     def a_file(self) -> Inputs:
         return Inputs(self.packs())
@@ -470,7 +470,7 @@ class Maker:
             return self.huge(command)
         return makers[command]()
 
-    # The words.
+    # The arguments.
 
     def value(self, letter: str, inputs: Inputs) -> str:
         if self.chance(0.03):
@@ -484,7 +484,7 @@ class Maker:
         return time_of(inputs.at) if letter == "T" else inputs.form
 
     def mangled(self, words: list[str | bytes]) -> list[str | bytes]:
-        """The words, after one of them was removed, doubled, moved or changed, or after one was added."""
+        """The arguments, after one of them was removed, doubled, moved or changed, or after one was added."""
         made = list(words)
         place, other = self.rng.randrange(len(made)), self.rng.randrange(len(made))
         how = self.rng.randrange(7)
@@ -506,7 +506,7 @@ class Maker:
         return made
 
     def names(self, inputs: Inputs) -> list[str]:
-        """The file names behind the words, or nothing if standard input is read."""
+        """The file names after the other arguments, or nothing if standard input is read."""
         if self.chance(0.04):
             names = ("first", "second", "missing", ".", "")
             return ["--", *self.rng.choices(names, k=self.rng.randint(0, 3))]
@@ -559,9 +559,9 @@ class Runner:
     """Runs calls in a temporary folder."""
 
     def __init__(self, folder: Path) -> None:
-        self.folder, self.gives_text = folder, False
+        self.folder, self.only_text = folder, False
 
-    def lay(self, inputs: Inputs) -> None:
+    def write_inputs(self, inputs: Inputs) -> None:
         (self.folder / "first").write_bytes(inputs.first)
         (self.folder / "second").write_bytes(inputs.second or b"")
 
@@ -569,8 +569,8 @@ class Runner:
         with open("/dev/full", "wb") as full:
             where: IO[bytes] | int = full if call.full else subprocess.PIPE
             try:
-                given = [word for word in call.words if isinstance(word, str) or not self.gives_text]
-                words: list[str | bytes] = [os.fspath(program), *given]
+                arguments = [word for word in call.words if isinstance(word, str) or not self.only_text]
+                words: list[str | bytes] = [os.fspath(program), *arguments]
                 ran = subprocess.run(words, timeout=SECONDS_ALLOWED, input=call.inputs.first,
                                      stdout=where, stderr=subprocess.PIPE, cwd=self.folder)
             except subprocess.TimeoutExpired as stopped:
@@ -579,7 +579,7 @@ class Runner:
 
 
 # The part of a line on standard error that is counted.
-TOLD = r"refused (?:(?:cue|script) \d+ )?\S+|damaged|usage|late|read fault \w+|write fault|$"
+MESSAGE = r"refused (?:(?:cue|script) \d+ )?\S+|damaged|usage|late|read fault \w+|write fault|$"
 
 
 class Tally:
@@ -587,14 +587,14 @@ class Tally:
 
     def __init__(self) -> None:
         self.statuses: Counter[tuple[str, int | None]] = Counter()
-        self.told: Counter[str] = Counter()
-        self.without_memory = 0
+        self.messages: Counter[str] = Counter()
+        self.out_of_memory = 0
 
     def add(self, call: Call, outcome: Outcome) -> None:
         self.statuses[call.command, outcome.status] += 1
         line = outcome.errors.decode(errors="replace")
-        known = re.match(TOLD, line)
-        self.told[re.sub(r" \d+", "", known[0]) if known else "(another line)"] += 1
+        known = re.match(MESSAGE, line)
+        self.messages[re.sub(r" \d+", "", known[0]) if known else "(another line)"] += 1
 
     def table(self) -> str:
         """The number of calls of each command and each status, and how often each line was printed."""
@@ -606,8 +606,8 @@ class Tally:
         sums = [sum(self.statuses[command, status] for command in COMMANDS) for status in statuses]
         rows.append(["all", *map(str, sums), str(sum(sums))])
         lines = [name.ljust(10) + "".join(cell.rjust(8) for cell in cells) for name, *cells in rows]
-        told = [f"{count:8} {line or '(nothing)'}" for line, count in sorted(self.told.items())]
-        return "\n".join([*lines, "", "told on standard error:", *told])
+        messages = [f"{count:8} {line or '(nothing)'}" for line, count in sorted(self.messages.items())]
+        return "\n".join([*lines, "", "lines on standard error:", *messages])
 
 
 def first_difference(old: bytes, new: bytes) -> str:
@@ -628,14 +628,14 @@ def difference(old: Outcome, new: Outcome) -> str:
     return ", ".join(parts)
 
 
-def shown(call: Call, folder: Path) -> str:
+def command_line(call: Call, folder: Path) -> str:
     """The command line of a call in the folder of its inputs."""
     words = [shlex.quote(word) if isinstance(word, str) else f"$'{repr(word)[2:-1]}'" for word in call.words]
     return f"cd {folder}; PROGRAM {' '.join(words)} <first{' >/dev/full' if call.full else ''}"
 
 
 class Comparison:
-    """Two programs, run in parallel."""
+    """Compares two programs call by call."""
 
     def __init__(self, old: Path, new: Path, seed: int, folder: Path) -> None:
         self.old, self.new = old, new
@@ -650,13 +650,13 @@ class Comparison:
         for name in ("first", "second"):
             shutil.copy(self.runner.folder / name, kept / name)
         self.differences += 1
-        print(f"difference {self.differences}: {call.command}: {what}\n    {shown(call, kept)}", flush=True)
+        print(f"difference {self.differences}: {call.command}: {what}\n    {command_line(call, kept)}", flush=True)
 
     def compare(self, call: Call) -> None:
-        self.runner.lay(call.inputs)
+        self.runner.write_inputs(call.inputs)
         old, new = (self.runner.run(program, call) for program in (self.old, self.new))
         if NO_MEMORY in (old.status, new.status):
-            self.tally.without_memory += 1
+            self.tally.out_of_memory += 1
             return
         self.tally.add(call, old)
         if old != new:
@@ -677,20 +677,20 @@ class Comparison:
 
 def main() -> int:
     parser = argparse.ArgumentParser(description="Compares two builds of the program on random calls.")
-    parser.add_argument("old", type=Path, help="the program that inputs are made with")
-    parser.add_argument("new", type=Path, help="the program that is compared with it")
-    parser.add_argument("--calls", type=int, default=2000, help="how many calls are compared (default 2000)")
-    parser.add_argument("--seed", type=int, default=1, help="the number that all calls are made from (default 1)")
-    parser.add_argument("--windows", action="store_true", help="give NEW no word that wine cannot pass on: bytes that are no text")
+    parser.add_argument("old", type=Path, help="the program that makes the inputs")
+    parser.add_argument("new", type=Path, help="the program to compare with it")
+    parser.add_argument("--calls", type=int, default=2000, help="the number of calls (default 2000)")
+    parser.add_argument("--seed", type=int, default=1, help="the seed of the random calls (default 1)")
+    parser.add_argument("--windows", action="store_true", help="omit arguments that are not valid text, since wine cannot pass them to NEW")
     words = parser.parse_args()
     with tempfile.TemporaryDirectory(prefix="compare-") as folder:
         comparison = Comparison(words.old.resolve(), words.new.resolve(), words.seed, Path(folder))
-        comparison.runner.gives_text = words.windows
+        comparison.runner.only_text = words.windows
         comparison.run(words.calls)
     print(comparison.tally.table())
     compared = sum(comparison.tally.statuses.values())
     print(f"{compared} calls compared, {comparison.differences} differ;", end=" ")
-    print(f"{comparison.tally.without_memory} were without memory and are not compared")
+    print(f"{comparison.tally.out_of_memory} ran out of memory and are not compared")
     return 1 if comparison.differences else 0
 
 

@@ -1,14 +1,19 @@
 #!/usr/bin/env python3
-"""Tries where `mend` places the pieces of readings, on random files of known discs: placing_cases.py [--cases N]
-[--seed N] [--only N] [--show] [--stream]
+"""Tests where `mend` places the pieces of readings, on random files of known discs: placing_cases.py [--cases N]
+[--seed N] [--only N] [--show] [--stream] [--force]
 
-Each case is a disc and two to five files of it, in five forms: with damage of R to W; with good, partly bad, nearly no
-or no Q; with stale runs of 3 to 400 blocks; with missing and repeated pieces; some of another disc. For each block of a
-file, the case knows where the drive was and which block of the disc the content is. The command runs without --force,
-as for an archivist. The case counts perfect readings that lost a word that no graphics pack contradicts; results with
-fewer correct words than the best reading; reported numbers that are not true; wrong words with exit status 0 that the
-rule would not have if all blocks were in their places; and refusals. No code is shared with the desk or the library.
-The exit status is 1 if one of the first four counts is not 0."""
+Each case is a disc and two to five files of it, in five forms. Channels R to W of a file may be damaged. Its Q channel
+may be good, partly bad, nearly all bad, or empty. It may have stale runs of 3 to 400 blocks, and missing or repeated
+pieces, or be of another disc. For each block of a file, the case knows the position of the drive and the block of the
+disc that the content comes from. The command runs without --force, as for an archivist. The script counts:
+
+- perfect readings that lost a word that no graphics pack contradicts,
+- results with fewer correct words than the best reading,
+- wrong reported numbers,
+- wrong words with exit status 0 that the rule would not have if all blocks were in their places,
+- refusals.
+
+No code is shared with the desk or the library. The exit status is 1 if one of the first four counts is not 0."""
 import argparse
 import binascii
 import contextlib
@@ -24,7 +29,7 @@ from dataclasses import dataclass, field
 from typing import Any, NamedTuple, Optional, Sequence
 
 import mending_cases as rule
-from mending_cases import NONE, Array, Heard, Reading, Truth, np
+from mending_cases import NONE, Array, Decoded, Reading, Truth, np
 
 from ribjasper import main as desk
 
@@ -37,7 +42,7 @@ STALE_LENGTHS = (3, 5, 12, 20, 60, 100, 200, 400)
 
 @dataclass
 class File:
-    """A file: its blocks, the place of the drive at each, and the block of the disc that each is, or -1."""
+    """A file: its blocks, the position of the drive for each, and the block of the disc that each comes from, or -1."""
 
     blocks: Array
     home: Array
@@ -50,18 +55,18 @@ class File:
         self.blocks, self.home, self.origin = self.blocks[places], self.home[places], self.origin[places]
 
 
-def without_q(blocks: Array, which: Array) -> None:
+def clear_q(blocks: Array, which: Array) -> None:
     blocks[which] &= 0xBF
 
 
-def bad_q(chance: random.Random, blocks: Array, which: Array) -> None:
+def damage_q(chance: random.Random, blocks: Array, which: Array) -> None:
     for at in np.flatnonzero(which):
         for _ in range(chance.choice((1, 2, 9))):
             blocks[at, chance.randrange(BLOCK)] ^= 0x40
 
 
 def change_q(chance: random.Random, out: File) -> str:
-    """Damages channel Q of a file, and returns how."""
+    """Damages channel Q of a file, and returns the kind of damage."""
     count = len(out.blocks)
     kind = chance.choices(
         ("good", "bad in a part", "bad nearly everywhere", "none", "none in a part"), (40, 15, 15, 20, 10)
@@ -71,21 +76,21 @@ def change_q(chance: random.Random, out: File) -> str:
     first, end = rule.stretch(chance, count)
     if kind == "bad in a part":
         where[first:end] = rng.random(end - first) < chance.choice((0.2, 0.5, 0.8))
-        bad_q(chance, out.blocks, where)
+        damage_q(chance, out.blocks, where)
     elif kind == "bad nearly everywhere":
         where = rng.random(count) < chance.choice((0.9, 0.97, 0.99, 0.998))
-        bad_q(chance, out.blocks, where)
+        damage_q(chance, out.blocks, where)
     elif kind == "none":
-        without_q(out.blocks, ~where)
+        clear_q(out.blocks, ~where)
     elif kind == "none in a part":
         where[first:end] = True
-        without_q(out.blocks, where)
+        clear_q(out.blocks, where)
     out.done.append(f"Q {kind} {first}-{end}" if "part" in kind else f"Q {kind}")
     return kind
 
 
 def add_stale(chance: random.Random, truth: Truth, out: File, q: str) -> None:
-    """Runs of blocks from another time, with good or partly bad frames of that time."""
+    """Replaces runs of blocks by blocks of another time, with good or partly bad frames of that time."""
     count = len(out.blocks)
     disc = truth.stream.reshape(-1, BLOCK)
     for _ in range(chance.choice((1, 1, 1, 2, 3, 4))):
@@ -95,14 +100,14 @@ def add_stale(chance: random.Random, truth: Truth, out: File, q: str) -> None:
         other = max(0, at - lag) if lag else chance.randrange(count - length + 1)
         run = disc[other : other + length].copy()
         if q in ("bad in a part", "bad nearly everywhere") and chance.random() < 0.4:
-            bad_q(chance, run, np.random.default_rng(chance.randrange(1 << 30)).random(length) < 0.5)
+            damage_q(chance, run, np.random.default_rng(chance.randrange(1 << 30)).random(length) < 0.5)
         out.blocks[at : at + length] = run
         out.origin[at : at + length] = np.arange(other, other + length)
         out.done.append(f"stale {at}-{at + length} of {other}")
 
 
 def arrange(chance: random.Random, out: File, q: str, start: int) -> None:
-    """Arranges the pieces of the file in their order."""
+    """Moves, repeats or removes pieces of the file, or adds a lead-in."""
     count = len(out.blocks)
     kind = chance.choices(
         ("whole", "later", "shorter", "exchanged", "repeated", "missing", "lead-in"), (55, 8, 8, 3, 8, 8, 10)
@@ -130,7 +135,7 @@ def arrange(chance: random.Random, out: File, q: str, start: int) -> None:
 
 
 def add_lead_in(out: File, count: int, is_bare: bool) -> None:
-    """Blocks of a lead-in with entries of the table of contents."""
+    """Adds blocks of a lead-in, with entries of the table of contents."""
     entry = bytes([1, 0, 0xA0, 0x97, 0x20, 0, 0, 1, 0, 0])
     bits = np.unpackbits(np.frombuffer(entry + (binascii.crc_hqx(entry, 0) ^ 0xFFFF).to_bytes(2, "big"), np.uint8)) << 6
     front = np.tile(bits, (count, 1)) & (0 if is_bare else 0x40)
@@ -140,16 +145,16 @@ def add_lead_in(out: File, count: int, is_bare: bool) -> None:
 
 
 def file_of(chance: random.Random, truth: Truth, start: int) -> File:
-    own = Reading(truth.stream.copy())
-    count = len(own.stream) // BLOCK
+    reading = Reading(truth.stream.copy())
+    count = len(reading.stream) // BLOCK
     roll, is_foreign = chance.random(), False
     if roll < 0.04:
-        rule.damage(chance, truth, chance.choice(("shifted R-W", "foreign")), own)
+        rule.damage(chance, truth, chance.choice(("shifted R-W", "foreign")), reading)
         is_foreign = True
     elif roll < 0.75:
         for kind in chance.choices(WORN, WORN_WEIGHTS, k=chance.choice((1, 1, 2, 3))):
-            rule.damage(chance, truth, kind, own)
-    out = File(own.stream.reshape(-1, BLOCK), np.arange(count), np.arange(count), own.done, is_foreign)
+            rule.damage(chance, truth, kind, reading)
+    out = File(reading.stream.reshape(-1, BLOCK), np.arange(count), np.arange(count), reading.done, is_foreign)
     q = change_q(chance, out)
     if chance.random() < 0.5:
         add_stale(chance, truth, out, q)
@@ -180,21 +185,21 @@ def as_file(blocks: Array, form: str, seed: int) -> bytes:
 def layers(blocks: Array, places: Array, count: int) -> list[Array]:
     """Streams of the disc with each block at its place; several streams if a place has several blocks."""
     found: list[Array] = []
-    taken: list[Array] = []
+    used: list[Array] = []
     for block, place in zip(blocks, places):
         if place < 0 or not block.any():
             continue
-        layer = next((number for number, own in enumerate(taken) if not own[place]), None)
+        layer = next((number for number, places_used in enumerate(used) if not places_used[place]), None)
         if layer is None:
             layer = len(found)
             found.append(np.zeros((count, BLOCK), np.uint8))
-            taken.append(np.zeros(count, bool))
-        found[layer][place], taken[layer][place] = block, True
-    return [own.ravel() for own in found] or [np.zeros(count * BLOCK, np.uint8)]
+            used.append(np.zeros(count, bool))
+        found[layer][place], used[layer][place] = block, True
+    return [stream.ravel() for stream in found] or [np.zeros(count * BLOCK, np.uint8)]
 
 
 def ideal_layers(it: File, count: int) -> list[Array]:
-    """The blocks of a file at their places: first those that the drive read at the right place."""
+    """The blocks of a file at their places on the disc. Blocks that the drive read at the right position come first."""
     at_home = it.home == it.origin
     order = np.concatenate((np.flatnonzero(at_home), np.flatnonzero(~at_home)))
     return layers(it.blocks[order], it.origin[order], count)
@@ -203,7 +208,9 @@ def ideal_layers(it: File, count: int) -> list[Array]:
 # ---- The result of the command.
 
 
-class Ran(NamedTuple):
+class Output(NamedTuple):
+    """The result of the command. `lost` are the units in its table of missing words."""
+
     status: int
     content: bytes
     rows: list[list[str]]
@@ -211,7 +218,7 @@ class Ran(NamedTuple):
     lost: Array
 
 
-def run_command(folder: pathlib.Path, contents: Sequence[bytes], name: str, words: Sequence[str]) -> Ran:
+def run_command(folder: pathlib.Path, contents: Sequence[bytes], name: str, words: Sequence[str]) -> Output:
     names = []
     for number, content in enumerate(contents):
         path = folder / f"{number}.dump"
@@ -227,7 +234,7 @@ def run_command(folder: pathlib.Path, contents: Sequence[bytes], name: str, word
         for line in table.read_text().splitlines()[1:]:
             cells = line.split("\t")
             lost += range(int(cells[0]), int(cells[0]) + int(cells[2]))
-    return Ran(
+    return Output(
         status, content, [it.split("\t") for it in rows.getvalue().splitlines()], lines.getvalue(), np.array(lost, int)
     )
 
@@ -236,21 +243,21 @@ def packs_of(stream: bytes, name: str) -> Array:
     """The packs of an output; for a stream, the packs of its words that are codewords."""
     if name.endswith(".cdg"):
         return np.frombuffer(stream, np.uint8).reshape(-1, WORD)
-    own = rule.hear(np.frombuffer(stream, np.uint8))
-    return np.where((own.kind == rule.NEAR)[:, None], own.pack, 0)
+    reading = rule.decode(np.frombuffer(stream, np.uint8))
+    return np.where((reading.kind == rule.NEAR)[:, None], reading.pack, 0)
 
 
 class Case(NamedTuple):
     truth: Truth
     start: int
     files: list[File]
-    ran: Ran
+    output: Output
     packs: Array
 
 
 def offset_of(case: Case) -> Optional[int]:
-    """The block of the disc at which the output begins, as the command says; None if it does not say so."""
-    found = re.search(r"(?:pack|block) (\d+) of \S+ is of the absolute time (\d+):(\d+):(\d+)", case.ran.lines)
+    """The block of the disc at which the output begins, if the command reports it."""
+    found = re.search(r"(?:pack|block) (\d+) of \S+ is of the absolute time (\d+):(\d+):(\d+)", case.output.lines)
     if not found:
         return None
     minute, second, frame = (int(it) for it in found.groups()[1:])
@@ -258,8 +265,7 @@ def offset_of(case: Case) -> Optional[int]:
 
 
 def aligned(case: Case, offset: int) -> tuple[Array, Array]:
-    """The packs of the output at the words of the disc, and which words it has; wrong packs outside count as one more
-    word."""
+    """The packs of the output, moved to the words of the disc, and which of these words the output has."""
     words = len(case.truth.words)
     packs, has = np.zeros((words, WORD), np.uint8), np.zeros(words, bool)
     at = np.arange(len(case.packs)) + 4 * offset
@@ -269,50 +275,50 @@ def aligned(case: Case, offset: int) -> tuple[Array, Array]:
 
 
 def correct_words(packs: Array, has: Array, truth: Truth) -> Array:
-    """The correct words. Where the output has none, for example after its end, a word is idle."""
+    """The correct words. A word that the output does not have, for example after its end, counts as idle."""
     right: Array = (packs == truth.words).all(axis=1)
     return right
 
 
 def is_time_true(case: Case, offset: int) -> bool:
-    """Whether most packs of the output that are not idle are the packs of the disc at the time that the command says,
-    or at least more than at another time."""
+    """Whether most packs of the output that are not idle are those of the disc at the reported time, or at least more than
+    at any other time."""
     packs, has = aligned(case, offset)
     busy = packs.any(axis=1)
     outside = int(case.packs.any(axis=1).sum()) - int(busy.sum())
     same = int((busy & correct_words(packs, has, case.truth)).sum())
-    return 2 * same >= int(busy.sum()) + outside or offset == guessed(case)
+    return 2 * same >= int(busy.sum()) + outside or offset == best_offset(case)
 
 
 class Expected(NamedTuple):
-    """The result of the rule with each block at its place, and the packs of each file alone."""
+    """The result of the rule with each block at its place, the decoded streams, the correct words of each file, and the decoded files."""
 
     result: Any
-    heard: list[Heard]
-    alone: list[Array]
-    home: list[Heard]
+    decoded: list[Decoded]
+    correct: list[Array]
+    home: list[Decoded]
 
 
 def expected(truth: Truth, files: Sequence[File]) -> Expected:
     count = len(truth.stream) // BLOCK
     streams = [stream for it in files for stream in ideal_layers(it, count)]
-    home = [rule.hear(layers(it.blocks, it.home, count)[0]) for it in files]
-    alone = [(rule.alone(own) == truth.words).all(axis=1) for own in home]
-    return Expected(rule.mend(streams), [rule.hear(it) for it in streams], alone, home)
+    home = [rule.decode(layers(it.blocks, it.home, count)[0]) for it in files]
+    correct = [(rule.packs_of(reading) == truth.words).all(axis=1) for reading in home]
+    return Expected(rule.mend(streams), [rule.decode(it) for it in streams], correct, home)
 
 
-def reason_of_refusal(ran: Ran) -> str:
+def reason_of_refusal(output: Output) -> str:
     for words, name in (
         ("seem not to be of one disc", "not of one disc"),
         ("have no time", "no time"),
-        ("belong", "in doubt"),
+        ("determines the place of", "unknown places"),
         ("no known form", "no dump"),
         ("all bytes are zeros", "no dump"),
         ("is cooked", "no dump"),
     ):
-        if words in ran.lines:
+        if words in output.lines:
             return name
-    return "other: " + ran.lines[-200:]
+    return "other: " + output.lines[-200:]
 
 
 def count_case(
@@ -326,7 +332,7 @@ def count_case(
         form = chance.choice(FORMS)
         it.done.append(form)
         contents.append(as_file(it.blocks, form, number))
-    ran = run_command(folder, contents, name, words)
+    output = run_command(folder, contents, name, words)
     notes = [f"{blocks} blocks from {start}", *("; ".join(it.done) for it in files)]
     foreign = any(it.is_foreign for it in files)
     prefix = "with a foreign reading: " if foreign else ""
@@ -335,104 +341,104 @@ def count_case(
         if number:
             totals[prefix + what] += number
             if show:
-                print("==", prefix + what, number, *notes, ran.lines, *map(" ".join, ran.rows), sep="\n   ")
+                print("==", prefix + what, number, *notes, output.lines, *map(" ".join, output.rows), sep="\n   ")
 
-    if ran.status == 9:
+    if output.status == 9:
         totals["nothing to mend"] += 1
         return
-    if ran.status not in (0, 1):
-        reason = reason_of_refusal(ran)
+    if output.status not in (0, 1):
+        reason = reason_of_refusal(output)
         if reason != "no dump":
             count(f"refused, {reason}")
         else:
             totals["no dump"] += 1
         return
     totals[prefix + "cases"] += 1
-    case = Case(truth, start, files, ran, packs_of(ran.content, name))
-    known = offset_of(case)
-    compare(case, known if known is not None else guessed(case), known is not None, count, totals, prefix)
+    case = Case(truth, start, files, output, packs_of(output.content, name))
+    reported = offset_of(case)
+    compare(case, reported if reported is not None else best_offset(case), reported is not None, count, totals, prefix)
 
 
-def guessed(case: Case) -> int:
-    """The offset at which most packs are correct, if the command gives none."""
+def best_offset(case: Case) -> int:
+    """The offset at which most packs are correct."""
     at = range(-400, 401)
     return max(at, key=lambda offset: (int(correct_words(*aligned(case, offset), case.truth).sum()), -abs(offset)))
 
 
-def compare(case: Case, offset: int, says_time: bool, count: Any, totals: Counter[str], prefix: str) -> None:
-    truth, ran = case.truth, case.ran
-    wanted = expected(truth, case.files)
+def compare(case: Case, offset: int, reports_time: bool, count: Any, totals: Counter[str], prefix: str) -> None:
+    truth, output = case.truth, case.output
+    reference = expected(truth, case.files)
     packs, has = aligned(case, offset)
     right = correct_words(packs, has, truth)
-    best = max(int(own.sum()) for own in wanted.alone)
-    by_rule = (wanted.result.packs == truth.words).all(axis=1)
+    best = max(int(words.sum()) for words in reference.correct)
+    by_rule = (reference.result.packs == truth.words).all(axis=1)
     totals[prefix + "words of all discs"] += len(right)
     totals[prefix + "correct words"] += int(right.sum())
-    totals[prefix + "correct words of the rule with all blocks in their place"] += int(by_rule.sum())
+    totals[prefix + "correct words by the rule with all blocks in their places"] += int(by_rule.sum())
     totals[prefix + "correct words of the best readings"] += best
     if right.sum() < best:
-        is_reported = "blocks are left out" in ran.lines
+        is_reported = "blocks are omitted" in output.lines
         name = "results with fewer correct words than the best reading"
-        count(f"reported blocks left out: {name}" if is_reported else name, int(by_rule.sum() >= best))
-        count("the same, as the rule has it", int(by_rule.sum() < best))
-    if says_time and not is_time_true(case, offset):
-        count("the reported time is not true")
+        count(f"omitted blocks are reported: {name}" if is_reported else name, int(by_rule.sum() >= best))
+        count("also by the rule, fewer correct words than the best reading", int(by_rule.sum() < best))
+    if reports_time and not is_time_true(case, offset):
+        count("the reported time is wrong")
     wrong = has & ~right & packs.any(axis=1)
     outside = int(case.packs.any(axis=1).sum()) - int(packs.any(axis=1).sum())
-    rule_wrong = ~by_rule & (wanted.result.sources != NONE)
-    if ran.status == 0 and ((has & ~right & ~rule_wrong).any() or outside):
+    rule_wrong = ~by_rule & (reference.result.sources != NONE)
+    if output.status == 0 and ((has & ~right & ~rule_wrong).any() or outside):
         count("wrong words with exit status 0")
     totals[prefix + "wrong packs that are not idle"] += int(wrong.sum()) + outside
-    totals[prefix + "the same of the rule"] += int((rule_wrong & wanted.result.packs.any(axis=1)).sum())
-    check_perfect(case, right, wanted, count, totals, prefix)
-    check_numbers(case, wanted, offset, count)
+    totals[prefix + "wrong packs by the rule that are not idle"] += int((rule_wrong & reference.result.packs.any(axis=1)).sum())
+    check_perfect(case, right, reference, count, totals, prefix)
+    check_numbers(case, reference, offset, count)
 
 
-def check_perfect(case: Case, right: Array, wanted: Expected, count: Any, totals: Counter[str], prefix: str) -> None:
+def check_perfect(case: Case, right: Array, reference: Expected, count: Any, totals: Counter[str], prefix: str) -> None:
     truth = case.truth
-    for own, it in zip(wanted.home, case.files):
-        if not (own.word == truth.words).all() or not (it.home == it.origin).all():
+    for reading, it in zip(reference.home, case.files):
+        if not (reading.word == truth.words).all() or not (it.home == it.origin).all():
             continue
         totals[prefix + "perfect readings"] += 1
         if right.all():
             continue
         contradicted = np.zeros(len(right), bool)
-        for other in wanted.heard:
+        for other in reference.decoded:
             contradicted |= rule.graphics_of(other) & (other.pack != truth.words).any(axis=1)
         count(
             "perfect readings that lost a word that no graphics pack contradicts", int((~right & ~contradicted).any())
         )
 
 
-def check_numbers(case: Case, wanted: Expected, offset: int, count: Any) -> None:
-    """Checks that the report is true of the output, and equals the report of the rule if the output is that of the
+def check_numbers(case: Case, reference: Expected, offset: int, count: Any) -> None:
+    """Checks that the report fits the output. If the output is that of the rule, the report must also be that of the
     rule."""
-    ran = case.ran
-    cells = [[int(cell) for cell in row[1:]] for row in ran.rows[1:]]
-    found = re.search(r"(\d+) words have no codeword", ran.lines)
-    agreed = re.search(r"(\d+) words are those on which", ran.lines)
+    output = case.output
+    cells = [[int(cell) for cell in row[1:]] for row in output.rows[1:]]
+    found = re.search(r"(\d+) words have no codeword", output.lines)
+    agreed = re.search(r"(\d+) words are those on which", output.lines)
     none = int(found[1]) if found else 0
     words = len(case.packs)
     is_true = (
         all(row[0] == words for row in cells)
         and sum(row[1] for row in cells) + (int(agreed[1]) if agreed else 0) + none == words
-        and ran.status == int(bool(none or any(row[3] for row in cells)))
+        and output.status == int(bool(none or any(row[3] for row in cells)))
     )
     if (
-        case.ran.content
-        and len(case.ran.content) % WORD == 0
-        and len(case.ran.lost)
-        and words == len(case.ran.content) // WORD
+        case.output.content
+        and len(case.output.content) % WORD == 0
+        and len(case.output.lost)
+        and words == len(case.output.content) // WORD
     ):
-        is_true = is_true and len(ran.lost) == none and not case.packs[ran.lost].any()
-    count("reported numbers that are not true", int(not is_true))
-    plain = all((it.home == it.origin).all() and len(set(it.home.tolist())) == len(it.home) for it in case.files)
-    if not plain or len(wanted.heard) != len(cells) or words != len(case.truth.words) or offset:
+        is_true = is_true and len(output.lost) == none and not case.packs[output.lost].any()
+    count("reported numbers that are wrong", int(not is_true))
+    is_plain = all((it.home == it.origin).all() and len(set(it.home.tolist())) == len(it.home) for it in case.files)
+    if not is_plain or len(reference.decoded) != len(cells) or words != len(case.truth.words) or offset:
         return
-    lost = rule.lost_of(wanted.heard, wanted.result)
-    rule_rows = [(int(dropped.sum()), number) for dropped, number in zip(wanted.result.dropped, lost)]
-    same = [(row[2], row[3]) for row in cells] == rule_rows and (case.packs == wanted.result.packs).all()
-    count("calls that report otherwise than the rule", int(not same))
+    lost = rule.lost_of(reference.decoded, reference.result)
+    rule_rows = [(int(dropped.sum()), number) for dropped, number in zip(reference.result.dropped, lost)]
+    same = [(row[2], row[3]) for row in cells] == rule_rows and (case.packs == reference.result.packs).all()
+    count("reports that differ from the rule", int(not same))
 
 
 FAULTS = (
@@ -441,7 +447,7 @@ FAULTS = (
     "reported numbers",
     "the reported time",
     "wrong words with exit",
-    "calls that report",
+    "reports that differ",
 )
 
 

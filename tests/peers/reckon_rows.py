@@ -1,9 +1,9 @@
 #!/usr/bin/env python3
 """Computes expected values of rows in crates/rows/data independently: reckon_rows.py [--check]
 
-Prints a line for each value: the name of its row, the word of the row and the value. With --check it searches each
-value in the files of rows, and the exit status is 1 if one is missing. Streams, packs, checks, scripts and scratches
-are made here from their written definitions (docs/FORMATS.md), without code of the program."""
+Prints a line for each value: the name of its row, the key in the row, and the value. With --check, it searches each
+value in the files of rows; the exit status is 1 if one is missing. Streams, packs, checks, scripts and scratches are
+made here from their definitions in docs/FORMATS.md, without code of the program."""
 import argparse
 import hashlib
 import pathlib
@@ -220,10 +220,10 @@ def planar(q: bytes) -> str:
     return f"12*00 {q.hex()} 72*00"
 
 
-# Generated scripts and scratches.
+# Generated scripts, and streams with scratches.
 
 
-def spelled(blocks: int) -> str:
+def written_time(blocks: int) -> str:
     return f"{blocks // 4500:02}:{blocks // 75 % 60:02}:{blocks % 75:02}"
 
 
@@ -236,7 +236,7 @@ def script(seed: int, pictures: int) -> bytes:
             x, y = (a & 0xFFFF) % 288, (a >> 16) % 192
             width, height = 1 + (b & 0xFFFF) % (288 - x), 1 + (b >> 16) % (192 - y)
             lines.append(f"rect {x} {y} {width} {height} {b // 256 % 16}")
-        lines.append(f"show {spelled(800 * k + 800)} {spelled(800 * k + 820)}")
+        lines.append(f"show {written_time(800 * k + 800)} {written_time(800 * k + 820)}")
     return "".join(line + "\n" for line in lines).encode()
 
 
@@ -253,16 +253,16 @@ def pixmap(seed: int) -> bytes:
 
 
 def scratched(stream: bytes, lead_in: int, seed: int) -> bytes:
-    made = bytearray(stream)
+    symbols = bytearray(stream)
     words, place = words_of(seed), 0
-    front = 96 * min(lead_in, len(made) // 96)
-    while place < len(made) - front:
+    front = 96 * min(lead_in, len(symbols) // 96)
+    while place < len(symbols) - front:
         a = next(words)
         start = place + 192 + a % 64
         place = start + 1 + a // 256 % 16
-        for k in range(start, min(place, len(made) - front)):
-            made[front + k] ^= 1 + (a >> 16) % 63
-    return bytes(made)
+        for k in range(start, min(place, len(symbols) - front)):
+            symbols[front + k] ^= 1 + (a >> 16) % 63
+    return bytes(symbols)
 
 
 def digest(content: bytes) -> str:
@@ -386,11 +386,11 @@ def checkpoint(
     return content + check(content)
 
 
-# The name of a row, the word of the row, and the value.
+# The name of a row, the key in the row, and the value.
 Value = tuple[str, str, str]
 
 
-def of_tables() -> Iterator[Value]:
+def values_of_tables() -> Iterator[Value]:
     for name, pack in PACKS.items():
         yield name, "out", pack.hex()
     for name, pack in TEXTS.items():
@@ -399,7 +399,7 @@ def of_tables() -> Iterator[Value]:
         yield name, "first", planar(content)
 
 
-def of_discs() -> Iterator[Value]:
+def values_of_discs() -> Iterator[Value]:
     yield "a-disc-with-texts", "digest", digest(TITLED.stream())
     letters = Disc(ONE, 1, 12, [(0x80, [b"ABCDEFGHIJKL", b"One"])])
     yield "a-long-title", "digest", digest(letters.stream())
@@ -415,7 +415,7 @@ def of_discs() -> Iterator[Value]:
     yield "four-instructions-with-texts", "digest", digest(pressed(TITLED, ALL[:4]))
 
 
-def of_screens() -> Iterator[Value]:
+def values_of_screens() -> Iterator[Value]:
     yield "a-checkpoint-of-nothing", "out", f"43 44 47 53 41 56 45 31 65035*00 {checkpoint(0)[-2:].hex()}"
     yield "a-checkpoint-of-two-blocks", "out", f"43 44 47 53 41 56 45 31 11*00 02 65023*00 {checkpoint(2)[-2:].hex()}"
     in_lead_in = checkpoint(0, to_come=1, lead_in=2)[-2:].hex()
@@ -429,7 +429,7 @@ def of_screens() -> Iterator[Value]:
     yield "two-fills", "digest", digest(SHORT.stream([*fills, memory_preset(6)]))
 
 
-def of_workloads() -> Iterator[Value]:
+def values_of_workloads() -> Iterator[Value]:
     for seed, pictures in [(42, 1), (42, 2), (7, 3), (2**64 - 1, 1), (0, 500)]:
         yield f"a-script-of-seed-{seed}-and-{pictures}", "digest", digest(script(seed, pictures))
     yield "zeros-are-scratched", "digest", digest(scratched(bytes(480), 0, 42))
@@ -453,17 +453,17 @@ def rows() -> dict[str, list[str]]:
 
 def main() -> int:
     parser = argparse.ArgumentParser(
-        description="Works out by other means what rows in crates/rows/data want."
+        description="Computes expected values of rows in crates/rows/data independently."
     )
-    parser.add_argument("--check", action="store_true", help="only look for each value in the files of rows")
+    parser.add_argument("--check", action="store_true", help="only search each value in the files of rows")
     is_check = parser.parse_args().check
     known, status = rows(), 0
-    for name, word, value in [*of_tables(), *of_discs(), *of_screens(), *of_workloads()]:
-        line = f"{word} {value}"
+    for name, key, value in [*values_of_tables(), *values_of_discs(), *values_of_screens(), *values_of_workloads()]:
+        line = f"{key} {value}"
         if not is_check:
             print(name, line)
         elif line not in known.get(name, []):
-            print(f"row {name} lacks: {line}")
+            print(f"row {name} does not have: {line}")
             status = 1
     return status
 
