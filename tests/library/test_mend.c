@@ -297,7 +297,7 @@ static void many_readings(void)
     static const uint32_t of_first[] = { 9, 0, 0 }, of_both[] = { 8, 1, 0 };
     uint8_t packs[ROOM + 5], sources[WORDS + 3], word[24];
     ribjasper_mended_readings result;
-    /* Two readings without channels R to W, and then a whole one, which is the result. */
+    /* Two readings without channels R to W, and then an undamaged one, which is the result. */
     for (size_t r = 0; r < 3; r++) {
         make_stream(all + r * BYTES);
         for (size_t k = 0; r < 2 && k < BYTES; k++)

@@ -291,7 +291,7 @@ int main(int count, char **words)
         { "close another", close_other, RIBJASPER_CONVERTED },
     };
     uint32_t number = 1;
-    size_t k, most = 0, most_mending = 0;
+    size_t k, max = 0, max_mending = 0;
     int failed = 0;
     if (authored == NULL || fread(lead_in, 1, sizeof lead_in, authored) != sizeof lead_in) {
         fputs("no authored stream\n", stderr);
@@ -309,9 +309,9 @@ int main(int count, char **words)
         int mends = calls[k].call == mend || calls[k].call == mend_readings;
         size_t limit = mends ? LIMIT_MENDING : LIMIT;
         if (mends)
-            most_mending = bytes > most_mending ? bytes : most_mending;
+            max_mending = bytes > max_mending ? bytes : max_mending;
         else
-            most = bytes > most ? bytes : most;
+            max = bytes > max ? bytes : max;
         if (answer != calls[k].answer) {
             printf("%s returns %ld instead of %ld\n", calls[k].name, (long)answer, (long)calls[k].answer);
             failed = 1;
@@ -322,7 +322,7 @@ int main(int count, char **words)
             failed = 1;
         }
     }
-    printf("a call uses at most %lu bytes of stack, and a call that mends %lu\n", (unsigned long)most,
-           (unsigned long)most_mending);
+    printf("a call uses at most %lu bytes of stack, and a call that mends %lu\n", (unsigned long)max,
+           (unsigned long)max_mending);
     return failed;
 }

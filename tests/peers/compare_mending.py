@@ -206,17 +206,17 @@ def is_doubtful(candidate: Optional[Candidate]) -> bool:
 def dropped(all_candidates: Sequence[Sequence[Optional[Candidate]]]) -> list[list[bool]]:
     """For each reading, the words at which its codeword does not count."""
     count = len(all_candidates[0])
-    graphics = [any(is_graphics(own[n]) for own in all_candidates) for n in range(count)]
-    quiet = [any(is_quiet(own[n]) for own in all_candidates) for n in range(count)]
+    graphics = [any(is_graphics(reading[n]) for reading in all_candidates) for n in range(count)]
+    quiet = [any(is_quiet(reading[n]) for reading in all_candidates) for n in range(count)]
     marks = []
-    for own in all_candidates:
+    for reading in all_candidates:
         lacks = [False] * count
-        for quiet_run, group in itertools.groupby(range(count), lambda n: is_quiet(own[n])):
+        for quiet_run, group in itertools.groupby(range(count), lambda n: is_quiet(reading[n])):
             words = list(group)
-            if quiet_run and any(own[n] is not None and graphics[n] for n in words):
+            if quiet_run and any(reading[n] is not None and graphics[n] for n in words):
                 for n in words:
-                    lacks[n] = own[n] is not None
-        marks.append([lacks[n] or (is_doubtful(own[n]) and quiet[n]) for n in range(count)])
+                    lacks[n] = reading[n] is not None
+        marks.append([lacks[n] or (is_doubtful(reading[n]) and quiet[n]) for n in range(count)])
     return marks
 
 
@@ -226,7 +226,7 @@ def mend(readings: Sequence[bytes], errors: Errors) -> tuple[list[bytes], list[i
     marks = dropped(all_candidates)
     packs, sources = [], []
     for n in range(len(all_candidates[0])):
-        here = [own[n] for own in all_candidates]
+        here = [reading[n] for reading in all_candidates]
         counting = {
             r: (candidate.codeword, candidate.distance)
             for r, candidate in enumerate(here)
@@ -271,21 +271,21 @@ def chosen_channels(blocks: Sequence[bytes]) -> bytes:
 def chosen_symbols(blocks: Sequence[bytes], known: Sequence[Optional[int]]) -> bytes:
     """The most frequent symbols of those blocks, among the ones that were read, that have the most known symbols."""
     read = [bytes(byte & 0x3F for byte in block) for block in blocks if not is_unread(block)] or [bytes(96)]
-    completed = [bytes(own if mended is None else mended for own, mended in zip(block, known)) for block in read]
-    matches = [sum(own == mended for own, mended in zip(block, known)) for block in read]
-    return max(zip(matches, (completed.count(own) for own in completed), completed))[2]
+    completed = [bytes(symbol if mended is None else mended for symbol, mended in zip(block, known)) for block in read]
+    matches = [sum(symbol == mended for symbol, mended in zip(block, known)) for block in read]
+    return max(zip(matches, (completed.count(symbols) for symbols in completed), completed))[2]
 
 
 def mended_stream(readings: Sequence[bytes], lead_in: int, errors: Errors) -> tuple[bytes, list[int]]:
     """The stream of some readings without their first blocks, and the source of each word."""
     known: list[Optional[int]] = [None] * len(readings[0])
-    packs, sources, _ = mend([own[96 * lead_in :] for own in readings], errors)
+    packs, sources, _ = mend([reading[96 * lead_in :] for reading in readings], errors)
     for n, (pack, source) in enumerate(zip(packs, sources)):
         for place, symbol in zip(PLACES, pack if source != NONE else b""):
             known[96 * lead_in + 24 * n + place] = symbol
     out = bytearray()
     for at in range(0, len(readings[0]), 96):
-        blocks = [own[at : at + 96] for own in readings]
+        blocks = [reading[at : at + 96] for reading in readings]
         symbols = chosen_symbols(blocks, known[at : at + 96])
         out += bytes(high | low for high, low in zip(chosen_channels(blocks), symbols))
     return bytes(out), sources

@@ -118,7 +118,7 @@ def time_of(blocks: int) -> str:
 
 
 def combined(first: bytes, second: bytes, third: bytes) -> bytes:
-    """Three byte strings combined by exclusive or, cut to the shortest."""
+    """The exclusive or of three byte strings, as long as the shortest."""
     length = min(len(first), len(second), len(third))
     numbers = [int.from_bytes(piece[:length]) for piece in (first, second, third)]
     return (numbers[0] ^ numbers[1] ^ numbers[2]).to_bytes(length)
@@ -425,7 +425,7 @@ class Maker:
         return Inputs(self.packs())
 
     def a_checkpoint(self) -> Inputs:
-        """A checkpoint and the rest of some stream, mostly whole."""
+        """A checkpoint, mostly unchanged, and the rest of a stream."""
         saves = self.pools["saves"]
         save = self.rng.choice(saves)
         how = self.rng.choice("wwwwwwwmmmftl")

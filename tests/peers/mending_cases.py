@@ -368,7 +368,7 @@ def arranged(chance: random.Random, stream: Array, is_movable: bool) -> tuple[by
 
 
 def realigned(content: bytes, arrangement: str, truth: Truth) -> Array:
-    """The blocks of such a file at the places of the truth, and zeros for missing blocks."""
+    """The blocks of an arranged file at the places of the truth, and zeros for missing blocks."""
     blocks = len(truth.stream) // 96
     if arrangement.endswith("planar"):
         bits = np.unpackbits(np.frombuffer(content, np.uint8).reshape(-1, 8, 12), axis=2)
@@ -472,10 +472,10 @@ def compare_misplaced(
         totals["misplaced: blocks omitted and reported" if is_reported else "misplaced: other length"] += 1
         return
     totals["misplaced: cases"] += 1
-    whole = [(packs_of(reading) == truth.words).all(axis=1) for reading in decoded]
-    best = max(range(len(decoded)), key=lambda number: int(whole[number].sum()))
+    correct = [(packs_of(reading) == truth.words).all(axis=1) for reading in decoded]
+    best = max(range(len(decoded)), key=lambda number: int(correct[number].sum()))
     right = (desk_result.packs == truth.words).all(axis=1)
-    if right.sum() >= whole[best].sum():
+    if right.sum() >= correct[best].sum():
         return
     totals["misplaced: fewer correct words than the best reading"] += 1
     if "seem not to be of one disc" in desk_result.lines:
@@ -483,12 +483,12 @@ def compare_misplaced(
     is_moved = bool((desk_result.packs != result.packs).any())
     reasons = {
         "the command has placed blocks by their frames" if is_moved else reason(decoded, best, result, n)
-        for n in np.flatnonzero(whole[best] & ~right)
+        for n in np.flatnonzero(correct[best] & ~right)
     }
     for name in reasons:
         totals[f"misplaced: fewer, {name}"] += 1
     if show:
-        print("misplaced", int(whole[best].sum()), int(right.sum()), sorted(reasons), names)
+        print("misplaced", int(correct[best].sum()), int(right.sum()), sorted(reasons), names)
 
 
 def case(chance: random.Random, totals: Counter[str], show: bool, folder: Optional[pathlib.Path]) -> None:
@@ -586,12 +586,12 @@ def main() -> int:
     with tempfile.TemporaryDirectory(prefix="ribjasper-cases-") as folder:
         for number in range(words.cases):
             chance = random.Random(words.seed * 1_000_003 + number)
-            where = pathlib.Path(folder) / str(number) if words.desk else None
-            if where:
-                where.mkdir()
-            case(chance, totals, words.show, where)
-            if where:
-                shutil.rmtree(where)
+            case_folder = pathlib.Path(folder) / str(number) if words.desk else None
+            if case_folder:
+                case_folder.mkdir()
+            case(chance, totals, words.show, case_folder)
+            if case_folder:
+                shutil.rmtree(case_folder)
     for name, count in sorted(totals.items()):
         print(f"{count:10} {name}")
     failing = (
