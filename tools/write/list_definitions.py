@@ -42,7 +42,7 @@ PARTS = [
 HEADLINE = 3
 
 # The crates with definitions for the clauses of the C library, in addition to the crates of the program.
-LIBRARY = ("block_survey", "rw_mend", "mended_stream", "disc_plan", "live_player", "ribjasper_c")
+LIBRARY = ("block_survey", "rw_mend", "disc_plan", "live_player", "ribjasper_c")
 
 # The introductions of parts. They explain names in the claims that the part does not show.
 INTRODUCTIONS = {

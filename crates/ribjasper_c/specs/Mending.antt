@@ -6,7 +6,7 @@ use Rattle.rw_interleave.specs.Interleave.{whole_packs}
 use Rattle.rw_mend.specs.Many
 use Rattle.rw_mend.specs.Many.{words_in_each}
 use Rattle.rw_mend.specs.Streams.{IsMendedInto}
-use Rattle.mended_stream.specs.Stream.{AreMendedIntoStream, AreReportedIntoStream}
+use Rattle.rw_mend.specs.Stream.{AreMendedIntoStream, AreReportedIntoStream}
 use Rattle.ribjasper_c.specs.declared.mending.MendReported.{MendReported}
 use Rattle.ribjasper_c.specs.declared.mending.MendedReadings.{MendedReadings}
 use Rattle.ribjasper_c.specs.declared.mending.MendedStream.{MendedStream}

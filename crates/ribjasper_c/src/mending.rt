@@ -7,7 +7,7 @@ ghost use Rattle.ribjasper_c.specs.Mending.{refusal_of, shape_of, shape_refusal,
 
 use crate::answers::{DAMAGED, DONE, REFUSED, USAGE, WRITE_FAULT};
 use disc_time::MOST_LEAD_IN;
-use mended_stream::{mend_stream, mend_stream_report};
+use rw_mend::{mend_stream, mend_stream_report};
 use raw_subcode::{BLOCK_BYTES, MOST_UNITS};
 use rw_code::SYMBOLS;
 use rw_interleave::whole_packs;

@@ -15,3 +15,8 @@ pub mod Tallies
 pub mod Histories
 pub mod Candidates
 pub mod Words
+pub mod Chosen
+pub mod StreamLaws
+pub mod HeldReadings
+pub mod Symbols
+pub mod Stream

@@ -1,20 +1,27 @@
-//! Readings of one disc, mended word by word.
+//! Readings of one disc, mended word by word into packs, or block by block into a stream.
 #![tactic(auto)]
 
 mod agreements;
+mod blocks;
 mod candidates;
 mod choice;
+mod choosing;
 mod cover;
+mod held_readings;
 mod laws;
 mod losses;
 mod many;
+mod mended_stream;
 mod mender;
+mod parts;
 mod readings;
 mod rows;
 mod silences;
+mod stream_laws;
 mod streams;
 mod tallies;
 mod ways;
+mod words;
 
 pub use candidates::{Candidate, Coverage, WordReading, decode};
 pub use choice::{MOST_READINGS, Mended, WordSource, mend};
@@ -26,5 +33,10 @@ pub use laws::{
     packs_come_back, the_order_of_readings_changes_names_alone,
 };
 pub use many::{MendReport, mend_readings, mend_report};
+pub use mended_stream::{mend_stream, mend_stream_report};
+pub use stream_laws::{
+    each_word_stands_in_the_stream, frames_are_those_chosen, mended_packs_are_recovered,
+    one_reading_is_corrected, the_order_of_readings_changes_no_byte,
+};
 pub use streams::{MendCounts, mend_streams};
 pub use tallies::{AGREED, NO_READING, Tallies};

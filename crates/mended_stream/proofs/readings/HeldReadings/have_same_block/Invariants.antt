@@ -1,6 +1,0 @@
-use Rattle.std.proofs.Common.{◌≡◌, ◌<◌, ℕ, [], get_or}
-use Rattle.mended_stream.specs.Readings.{held_blocks}
-use Rattle.mended_stream.proofs.readings.HeldReadings.have_same_block.Given as goal
-
-abbrev pub invariant-loop-r : goal.invariant-loop-r
-invariant-loop-r l = (k : ℕ) → k < l.r → get_or (held_blocks l.self l.b) k [] ≡ l.first

@@ -1,5 +1,0 @@
-pub mod Chosen
-pub mod Laws
-pub mod Readings
-pub mod Symbols
-pub mod Stream
