@@ -95,11 +95,11 @@ typedef enum ribjasper_answer {
      text: the output, 64 bytes */
 void ribjasper_answer_text(int32_t answer, char text[RIBJASPER_ANSWER_TEXT]);
 
-#define RIBJASPER_BLOCK 96     /* bytes of a raw block: a byte for each symbol, bit 7 channel P to bit 0 channel W */
+#define RIBJASPER_BLOCK 96     /* bytes of a raw block: one for each symbol. Its bit 7 is channel P, its bit 0 channel W. */
 #define RIBJASPER_WIDTH 300    /* width of the screen in pixels */
 #define RIBJASPER_HEIGHT 216   /* height of the screen in pixels, with the border */
 #define RIBJASPER_PIXELS 64800 /* pixels of the screen, row by row from the top, each row from the left */
-#define RIBJASPER_COLOURS 16   /* colours of the colour table */
+#define RIBJASPER_COLOURS 16   /* the number of colours of a player */
 #define RIBJASPER_PICTURE 194400 /* bytes of a picture: three for each pixel, as in RIBJASPER_RGB */
 #define RIBJASPER_WINDOW_LEFT 6     /* the first column of the window inside the border */
 #define RIBJASPER_WINDOW_TOP 12     /* the first row of the window */
@@ -320,9 +320,10 @@ int32_t ribjasper_player_rect(const ribjasper_player *player, uint32_t x, uint32
    Returns RIBJASPER_DONE, or RIBJASPER_REFUSED if the player is closed. */
 int32_t ribjasper_player_picture(const ribjasper_player *player, uint8_t bytes[RIBJASPER_PICTURE]);
 
-/* These are the formats of pixels. Each format has a number, and its comment lists the bytes of a pixel in order. If the
-   colour of a pixel has the transparency level L, its opacity is 255 - (4 L + L / 16). So level 0 is opaque (255), and
-   level 63 is transparent (0). */
+/* These are the formats of pixels. Each format has a number, and its comment lists the bytes of a pixel in order. In the
+   formats RGBA_LEVELS and BGRA_LEVELS, the last byte is the opacity of the pixel: 255 - (4 L + L / 16), where L is the
+   transparency level of the pixel's colour, and L / 16 is rounded down. So level 0 is opaque (255), and level 63 is
+   transparent (0). */
 #define RIBJASPER_INDEXED 0     /* 1 byte: the colour number */
 #define RIBJASPER_RGB 1         /* 3 bytes: red, green, blue; each is 17 times the four bits of the colour */
 #define RIBJASPER_RGBA 2        /* 4 bytes: red, green, blue, 255 */
@@ -417,8 +418,8 @@ typedef struct ribjasper_mark {
     uint64_t state[8135]; /* the state of the player */
 } ribjasper_mark;
 
-/* Seeks in a stream of blocks: the player gets the same state as after ribjasper_player_begin and feeding the first
-   `to` blocks. Marks are numbered from 0, and mark k is for the place (k + 1) * every. The call starts from the last
+/* Seeks in a stream of blocks: the player gets the same state as after ribjasper_player_begin and feeding the first N
+   blocks, where N is the parameter `to`. Marks are numbered from 0, and mark k is for the place (k + 1) * every. The call starts from the last
    mark that is set and not after block `to`. If there is no such mark, it starts from the start of the stream. On the
    way, it sets the marks. So if all marks up to a place are set, a seek to this place feeds fewer than `every` blocks.
      player: the player, which must be open
@@ -592,7 +593,7 @@ typedef struct ribjasper_tally {
     uint64_t two;            /* words with two wrong symbols, which were corrected */
     uint64_t bad;            /* words with no codeword near */
     uint64_t frames;         /* valid frames of the Q channel, at most one in each block; 0 for RIBJASPER_PACKS */
-    uint64_t bad_frames;     /* frames that are not valid */
+    uint64_t bad_frames;     /* bad Q frames: with a wrong CRC or an impossible value */
     uint64_t frame_block;    /* the number of the block with the last valid frame, from 1; 0 if there is none */
     ribjasper_q_frame frame; /* this frame, or zeros */
 } ribjasper_tally;
