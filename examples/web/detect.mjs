@@ -1,50 +1,52 @@
-// What a file is: the form in which it holds subcode, and the length of its lead-in. The rules are those of the desk's command
-// `identify`, without its search for headers of unknown length and for bits or bytes in another order.
+// Detects the form of the subcode in a file, and the length of its lead-in. The rules are those of the desk's command `identify`,
+// but without its search for headers of unknown length and for bits or bytes in another order.
 import { BLOCK_BYTES, NO_TIME, PACK_BYTES } from "../../lib/web/ribjasper.mjs";
-import { Breath } from "./breath.mjs";
+import { TimeSlice } from "./time_slice.mjs";
 
 const AUDIO_BYTES = 2352;
 // P and Q as some drives return them: the frame, three bytes of zeros, and P in the highest bit of the last byte.
 const PQ_BYTES = 16;
 const FRAME_BYTES = 12;
 
-/** How a file stores blocks: the bytes of a unit, the number of its last bytes that are subcode, and their form. */
+/** The forms of files: a label, the bytes of a unit, the number of its last bytes that are subcode, and the coding of these. */
 const FORMS_OF_FILES = [
-    { name: "raw", told: "raw subcode", unit: BLOCK_BYTES, size: BLOCK_BYTES, coding: "raw" },
-    { name: "pq", told: "channels P and Q only", unit: PQ_BYTES, size: PQ_BYTES, coding: "pq" },
-    { name: "planar", told: "subcode in the planar form", unit: BLOCK_BYTES, size: BLOCK_BYTES, coding: "planar" },
-    { name: "sector", told: "an image with sectors of 2,448 bytes", unit: AUDIO_BYTES + BLOCK_BYTES, size: BLOCK_BYTES, coding: "raw" },
-    { name: "sector-pq", told: "an image with channels P and Q only", unit: AUDIO_BYTES + PQ_BYTES, size: PQ_BYTES, coding: "pq" },
+    { name: "raw", label: "raw subcode", unit: BLOCK_BYTES, size: BLOCK_BYTES, coding: "raw" },
+    { name: "pq", label: "channels P and Q only", unit: PQ_BYTES, size: PQ_BYTES, coding: "pq" },
+    { name: "planar", label: "subcode in the planar form", unit: BLOCK_BYTES, size: BLOCK_BYTES, coding: "planar" },
+    { name: "sector", label: "an image with sectors of 2,448 bytes", unit: AUDIO_BYTES + BLOCK_BYTES, size: BLOCK_BYTES, coding: "raw" },
+    { name: "sector-pq", label: "an image with channels P and Q only", unit: AUDIO_BYTES + PQ_BYTES, size: PQ_BYTES, coding: "pq" },
     {
-        name: "sector-planar", told: "an image with sectors of 2,448 bytes, their subcode planar",
+        name: "sector-planar", label: "an image with sectors of 2,448 bytes, their subcode planar",
         unit: AUDIO_BYTES + BLOCK_BYTES, size: BLOCK_BYTES, coding: "planar",
     },
-    { name: "cooked", told: "blocks of four packs", unit: BLOCK_BYTES, size: BLOCK_BYTES, coding: "packs" },
+    { name: "cooked", label: "blocks of four packs", unit: BLOCK_BYTES, size: BLOCK_BYTES, coding: "packs" },
     {
-        name: "cooked-sector", told: "an image with sectors of 2,448 bytes, their subcode packs",
+        name: "cooked-sector", label: "an image with sectors of 2,448 bytes, their subcode packs",
         unit: AUDIO_BYTES + BLOCK_BYTES, size: BLOCK_BYTES, coding: "packs",
     },
-    { name: "cdg", told: "a .cdg file", unit: PACK_BYTES, size: PACK_BYTES, coding: "cdg" },
+    { name: "cdg", label: "a .cdg file", unit: PACK_BYTES, size: PACK_BYTES, coding: "cdg" },
 ];
 export const formNamed = (name) => FORMS_OF_FILES.find((it) => it.name === name);
 
-// A form is tried in windows of this many bytes: first in a few nonempty ones; if these decide little, in more.
+// Forms are tried on windows of this many bytes: first on a few nonempty windows, and if these are not enough, on more.
 const WINDOW = 1 << 17;
 const FEW = { places: 64, windows: 12 };
 const MANY = { places: 2048, windows: 64 };
-// The probabilities that random bytes are good: a Q frame, one with its own fields, one with fields and no check, a word near a
-// codeword, and the first two symbols of a graphics pack. A form must be less likely by chance than UNLIKELY.
+// The probabilities that random bytes look valid: as a Q frame with a valid check, as one with valid fields too, as one with valid
+// fields but no check, as a word near a codeword, and as the first two symbols of a graphics pack. The probability that random
+// bytes look like a form must be below UNLIKELY.
 const CHANCE = { frame: 2 ** -16, fields: 1e-9, unchecked: 1e-5, word: 1.6e-5, pack: 9 / 4096 };
 const UNLIKELY = 1e-8;
-// A form that explains this share of the nonempty units is accepted at once; one that explains less than COMPARABLE of the best
-// is dropped; from AS_MUCH on it counts as equal.
+// A form that explains this share of the nonempty units is accepted at once.
 const SURE = 0.9;
+// A form with a smaller share than COMPARABLE of the best share is dropped. One that explains at least NEARLY_EQUAL of the largest
+// number of units counts as equal.
 const COMPARABLE = 0.7;
-const AS_MUCH = 0.95;
+const NEARLY_EQUAL = 0.95;
 const LIKELY_BY_Q = 0.2;
 const LIKELY_BY_WORDS = 0.5;
-// Words decide instead of Q if Q explains less than this and the words are likely.
-const LITTLE = 0.05;
+// Words decide instead of Q if Q explains a smaller share than this, and the words are likely.
+const LITTLE_BY_Q = 0.05;
 const LEAST_PACKS = 0.2;
 const LEAST_WORDS = 0.05;
 const LEAST_UNCHECKED = 0.25;
@@ -92,11 +94,11 @@ function blocksOfPq(ribjasper, content) {
     return ribjasper.fromPlanar(planar);
 }
 
-/** The frame of a unit; some drives omit its check. */
+/** The frame of a unit. If the drive omitted its check, the check is computed. */
 function withCheck(unit) {
     const frame = unit.slice(0, FRAME_BYTES);
-    const lacksCheck = frame.some((byte, k) => k < 10 && byte !== 0) && unit.subarray(10).every((byte) => (byte & 0x7f) === 0);
-    if (lacksCheck) {
+    const hasNoCheck = frame.some((byte, k) => k < 10 && byte !== 0) && unit.subarray(10).every((byte) => (byte & 0x7f) === 0);
+    if (hasNoCheck) {
         const check = checkOf(frame.subarray(0, 10)) ^ 0xffff;
         frame.set([check >> 8, check & 0xff], 10);
     }
@@ -117,43 +119,43 @@ function checkOf(bytes) {
 
 // ---- the form
 
-/** Finds the form of a file: `{ found: { form, skip, signs }, why }`; `found` is null if no form fits, and `why` says so. */
+/** Detects the form of a file: `{ found: { form, skip, evidence }, why }`. If no form fits, `found` is null and `why` is the reason. */
 export async function formOf(ribjasper, blob) {
-    const seen = [];
-    let looked = 0;
+    const candidates = [];
+    let tried = 0;
     for (const extent of [FEW, MANY]) {
         const windows = await windowsOf(blob, extent);
-        if (windows.length <= looked) {
+        if (windows.length <= tried) {
             continue;
         }
-        looked = windows.length;
+        tried = windows.length;
         for (const form of FORMS_OF_FILES.filter((it) => it.unit <= blob.size)) {
             for (const skip of new Set([0, blob.size % form.unit])) {
-                const tried = { form, skip, signs: await signsOf(ribjasper, windows, form, skip) };
-                seen.push(tried);
-                if (isSureAmong(tried, seen)) {
-                    return { found: tried, why: "" };
+                const candidate = { form, skip, evidence: await evidenceOf(ribjasper, windows, form, skip) };
+                candidates.push(candidate);
+                if (isSureAmong(candidate, candidates)) {
+                    return { found: candidate, why: "" };
                 }
             }
         }
-        const best = bestOf(seen);
+        const best = bestOf(candidates);
         if (best !== null && isLikely(explainedBy(best))) {
             break;
         }
     }
-    if (looked === 0) {
+    if (tried === 0) {
         return { found: null, why: blob.size === 0 ? "it is empty" : "all its bytes are zeros" };
     }
-    return { found: asCounted(blob, bestOf(seen)), why: "no known form of subcode fits" };
+    return { found: cdgByLength(blob, bestOf(candidates)), why: "no known form of subcode fits" };
 }
 
-/** Packs with parity whose number is not a multiple of four are a .cdg file. */
-function asCounted(blob, found) {
+/** Changes the form of packs with parity to .cdg if their number is not a multiple of four. */
+function cdgByLength(blob, found) {
     const isCdg = found?.form.name === "cooked" && (blob.size - found.skip) % BLOCK_BYTES !== 0;
     return isCdg ? { ...found, form: formNamed("cdg") } : found;
 }
 
-/** Nonempty windows, evenly spread. */
+/** Nonempty windows of a file at regular distances. */
 async function windowsOf(blob, { places: most, windows: enough }) {
     const places = Math.ceil(blob.size / WINDOW);
     const starts = places <= most
@@ -169,13 +171,14 @@ async function windowsOf(blob, { places: most, windows: enough }) {
     return full.length <= enough ? full : Array.from({ length: enough }, (_, k) => full[Math.floor((full.length * k) / enough)]);
 }
 
-/** The evidence for a form: the numbers of Q frames, good ones and ones with fields; of words, nonempty and busy ones. */
-async function signsOf(ribjasper, windows, form, skip) {
+/** The evidence for a form: the numbers of nonempty Q frames, of valid ones and of ones with known fields (`frames`, `good`, `fields`);
+ * of valid nonempty words, of all nonempty words, and of all words (`carrying`, `busy`, `words`). */
+async function evidenceOf(ribjasper, windows, form, skip) {
     const total = { frames: 0, good: 0, fields: 0, carrying: 0, busy: 0, words: 0 };
-    const add = (signs) => Object.entries(signs).forEach(([name, count]) => { total[name] += count; });
-    const breath = new Breath();
+    const add = (counts) => Object.entries(counts).forEach(([name, count]) => { total[name] += count; });
+    const timeSlice = new TimeSlice();
     for (const { start, content } of windows) {
-        await breath.take();
+        await timeSlice.pause();
         const first = Math.max(0, Math.ceil((start - skip) / form.unit));
         const from = skip + first * form.unit - start;
         const count = Math.max(0, Math.floor((content.length - from) / form.unit));
@@ -228,25 +231,25 @@ function packsIn(packs) {
     return found;
 }
 
-/** The share of the nonempty units that a form explains, by Q or by words, and the number; null if chance explains as much. */
-function explainedBy({ form, signs }) {
-    const { frames, good, fields, carrying, busy, words } = signs;
+/** The share and the number of the nonempty units that a form explains by Q or by words; null if chance explains them too. */
+function explainedBy({ form, evidence }) {
+    const { frames, good, fields, carrying, busy, words } = evidence;
     if (form.coding === "pq") {
-        // A missing check is always right, so the fields decide.
-        const is = fields >= LEAST_UNCHECKED * frames && isNoChance(fields, frames, CHANCE.unchecked);
-        return is ? { byQ: true, share: fields / frames, size: fields } : null;
+        // A missing check was computed and is always right, so the fields decide.
+        const isFound = fields >= LEAST_UNCHECKED * frames && isAboveChance(fields, frames, CHANCE.unchecked);
+        return isFound ? { byQ: true, share: fields / frames, size: fields } : null;
     }
-    if (isNoChance(good, frames, CHANCE.frame) || isNoChance(fields, frames, CHANCE.fields)) {
+    if (isAboveChance(good, frames, CHANCE.frame) || isAboveChance(fields, frames, CHANCE.fields)) {
         return { byQ: true, share: good / Math.max(frames, good), size: good };
     }
-    const is = form.coding === "cdg"
-        ? carrying >= LEAST_PACKS * busy && isNoChance(carrying, busy, CHANCE.pack)
-        : carrying >= LEAST_WORDS * busy && isNoChance(carrying, words, CHANCE.word);
-    return is ? { byQ: false, share: carrying / busy, size: carrying } : null;
+    const isFound = form.coding === "cdg"
+        ? carrying >= LEAST_PACKS * busy && isAboveChance(carrying, busy, CHANCE.pack)
+        : carrying >= LEAST_WORDS * busy && isAboveChance(carrying, words, CHANCE.word);
+    return isFound ? { byQ: false, share: carrying / busy, size: carrying } : null;
 }
 
-/** Whether so many good ones are more than random bytes would have, by the Poisson distribution. */
-function isNoChance(count, of, chance) {
+/** Whether random bytes would hardly have this number of valid units, by the Poisson distribution. */
+function isAboveChance(count, of, chance) {
     const expected = of * chance;
     if (count <= expected) {
         return false;
@@ -258,28 +261,28 @@ function isNoChance(count, of, chance) {
     return count * Math.log(expected) - logFactorial < Math.log(UNLIKELY);
 }
 
-function isSureAmong(tried, seen) {
-    const found = explainedBy(tried);
+function isSureAmong(candidate, candidates) {
+    const found = explainedBy(candidate);
     return found !== null && found.byQ && found.share >= SURE &&
-        seen.every((it) => (explainedBy(it)?.size ?? 0) * AS_MUCH <= found.size);
+        candidates.every((it) => (explainedBy(it)?.size ?? 0) * NEARLY_EQUAL <= found.size);
 }
 
 function isLikely({ byQ, share }) {
     return share >= (byQ ? LIKELY_BY_Q : LIKELY_BY_WORDS);
 }
 
-/** The form that explains the most. Of equal forms, the one with the fewest words and frames. */
-function bestOf(seen) {
-    const told = seen.map((it) => ({ it, by: explainedBy(it) })).filter(({ by }) => by !== null);
-    const byQ = told.filter(({ by }) => by.byQ);
-    const byWords = told.filter(({ by }) => !by.byQ);
+/** The candidate that explains the most. Of equal candidates, the one with the fewest words and frames. */
+function bestOf(candidates) {
+    const explained = candidates.map((it) => ({ it, by: explainedBy(it) })).filter(({ by }) => by !== null);
+    const byQ = explained.filter(({ by }) => by.byQ);
+    const byWords = explained.filter(({ by }) => !by.byQ);
     const most = (list, of) => list.reduce((high, { by }) => Math.max(high, by[of]), 0);
-    const qDecides = byQ.length > 0 && (most(byQ, "share") >= LITTLE || !byWords.some(({ by }) => isLikely(by)));
+    const qDecides = byQ.length > 0 && (most(byQ, "share") >= LITTLE_BY_Q || !byWords.some(({ by }) => isLikely(by)));
     let left = qDecides ? byQ : byWords;
     left = left.filter(({ by }) => by.share >= COMPARABLE * most(left, "share"));
-    left = left.filter(({ by }) => by.size >= AS_MUCH * most(left, "size"));
+    left = left.filter(({ by }) => by.size >= NEARLY_EQUAL * most(left, "size"));
     const rank = ({ it, by }) => [
-        it.signs.words + it.signs.frames, -Math.round(by.share * 100) / 100, FORMS_OF_FILES.indexOf(it.form), it.skip,
+        it.evidence.words + it.evidence.frames, -Math.round(by.share * 100) / 100, FORMS_OF_FILES.indexOf(it.form), it.skip,
     ];
     left.sort((one, other) => {
         const [a, b] = [rank(one), rank(other)];
@@ -291,7 +294,7 @@ function bestOf(seen) {
 
 // ---- the lead-in
 
-// Pieces with fewer frames are ignored as wrong frames if there is a longer piece.
+// Pieces with fewer frames are ignored if there is a longer piece, because their frames are probably wrong.
 const FEWEST = 3;
 // A piece decides if it has a second of frames, or a hundredth of all frames.
 const DECIDES = 75;
@@ -304,26 +307,26 @@ const [TABLE_FIRST, TABLE_LAST] = [1, 4];
  * program, all blocks are lead-in.
  */
 export async function leadInOfSurvey(survey) {
-    const { stretches, hasTable } = await stretchesOf(survey);
-    const found = piecesOf(stretches);
+    const { pieces, hasTable } = await timePieces(survey);
+    const found = mainPieces(pieces);
     if (found.length === 0) {
         return hasTable ? survey.length : null;
     }
     const frames = found.reduce((sum, it) => sum + it.known, 0);
-    const solid = found.find((it) => it.known >= Math.min(DECIDES, Math.ceil(frames / SHARE)));
-    const decides = solid ?? found.reduce((most, it) => (it.known > most.known ? it : most));
-    return Math.max(0, -decides.shift);
+    const long = found.find((it) => it.known >= Math.min(DECIDES, Math.ceil(frames / SHARE)));
+    const decisive = long ?? found.reduce((most, it) => (it.known > most.known ? it : most));
+    return Math.max(0, -decisive.shift);
 }
 
-/** Runs of blocks with consecutive absolute times: the first block, the block behind the last, and time minus block. */
-async function stretchesOf(survey) {
-    const stretches = [];
-    const breath = new Breath();
+/** Pieces of consecutive absolute times: the first block, the block after the last, and the time minus the block number. */
+async function timePieces(survey) {
+    const pieces = [];
+    const timeSlice = new TimeSlice();
     let hasTable = false;
     let before = null;
     for (let block = 0; block < survey.length; block += 1) {
         if (block % 10_000 === 0) {
-            await breath.take();
+            await timeSlice.pause();
         }
         const { kind, absolute } = survey.frame(block);
         hasTable ||= kind >= TABLE_FIRST && kind <= TABLE_LAST;
@@ -336,13 +339,13 @@ async function stretchesOf(survey) {
             before.known += 1;
         } else {
             before = { first: block, end: block + 1, shift: absolute - block, known: 1 };
-            stretches.push(before);
+            pieces.push(before);
         }
     }
-    return { stretches, hasTable };
+    return { pieces, hasTable };
 }
 
-/** Joins neighbours with the same shift. */
+/** Joins neighbouring pieces with the same shift. */
 function joined(pieces) {
     const found = [];
     for (const piece of pieces) {
@@ -356,24 +359,24 @@ function joined(pieces) {
     return found;
 }
 
-function piecesOf(stretches) {
-    const all = joined(stretches);
+function mainPieces(pieces) {
+    const all = joined(pieces);
     const long = joined(all.filter((it) => it.known >= FEWEST));
     return joined(inOrder(long.length > 0 ? long : all));
 }
 
-/** The pieces with consecutive times that have the most frames together. Stale subcode is left out. */
+/** The pieces with ascending times that together have the most frames. This excludes stale subcode. */
 function inOrder(pieces) {
-    const heaviest = pieces.toSorted((one, other) => other.known - one.known).slice(0, MOST_PIECES)
+    const longest = pieces.toSorted((one, other) => other.known - one.known).slice(0, MOST_PIECES)
         .toSorted((one, other) => one.first - other.first);
     const time = (it) => it.first + it.shift;
     const end = (it) => it.end + it.shift;
     const chains = [];
-    heaviest.forEach((piece, place) => {
+    longest.forEach((piece, place) => {
         let best = { frames: 0, before: -1 };
         for (let other = 0; other < place; other += 1) {
-            const goesOn = time(heaviest[other]) < time(piece) && end(heaviest[other]) < end(piece);
-            if (goesOn && chains[other].frames >= best.frames) {
+            const canFollow = time(longest[other]) < time(piece) && end(longest[other]) < end(piece);
+            if (canFollow && chains[other].frames >= best.frames) {
                 best = { frames: chains[other].frames, before: other };
             }
         }
@@ -382,7 +385,7 @@ function inOrder(pieces) {
     const found = [];
     let place = chains.reduce((most, it, k) => (it.frames > (chains[most]?.frames ?? -1) ? k : most), -1);
     while (place >= 0) {
-        found.unshift(heaviest[place]);
+        found.unshift(longest[place]);
         place = chains[place].before;
     }
     return found;

@@ -1,4 +1,4 @@
-// What can be played from the files that were opened together: graphics, each with the sound and the sheet of the same name.
+// Finds the playable items in the files that are opened together: graphics, each with the sound and the sheet of the same name.
 import { bytesOfBlob } from "./detect.mjs";
 import { ZipError, isZip, zipFiles } from "./zip.mjs";
 
@@ -26,12 +26,12 @@ function nameParts(path) {
     };
 }
 
-/** A file that was opened, or one in a zip: its name, its path, and `blob()`, which reads it. */
+/** An opened file or a file in a zip: its path and its name, and `blob()`, which reads it. */
 function entryOf(path, size, blob, why = "") {
     return { ...nameParts(path), size, blob, why };
 }
 
-/** The dropped or chosen files, with the files of zips in place of the zips. `wrong` has a line for each unreadable file. */
+/** The dropped or chosen files; zips are replaced by their files. `wrong` has a line for each unreadable file. */
 export async function entriesOf(files) {
     const entries = [];
     const wrong = [];
@@ -92,26 +92,26 @@ export const isSound = (entry) => SOUND_TYPES.has(entry.ending);
 export const soundType = (entry) => SOUND_TYPES.get(entry.ending);
 
 /**
- * The items of files: `{ name, graphics, sound, image, sheet, why }`, in the order of the files. `sound` is a sound of the same
- * name; `image` has the sectors whose subcode is `graphics`; `why` is the reason if the item cannot be played.
+ * The items in files, in the order of the files: `{ name, graphics, sound, image, sheet, why }`. `sound` has the same name as
+ * `graphics`. `image` has the sectors to which the subcode of `graphics` belongs. If the item cannot be played, `why` is the reason.
  */
 export function itemsOf(entries) {
     const all = entries.filter((it) => it.size > 0 || it.why !== "");
     const sounds = all.filter(isSound);
     const items = [];
     for (const entry of graphicsIn(all)) {
-        const beside = all.filter((it) => it.folder === entry.folder && it.stem === entry.stem && it !== entry);
-        const image = IMAGES.has(entry.ending) || entry.ending === "cdg" ? undefined : beside.find((it) => IMAGES.has(it.ending));
+        const related = all.filter((it) => it.folder === entry.folder && it.stem === entry.stem && it !== entry);
+        const image = IMAGES.has(entry.ending) || entry.ending === "cdg" ? undefined : related.find((it) => IMAGES.has(it.ending));
         items.push({
             name: entry.name,
             graphics: entry,
-            sound: beside.find(isSound) ?? only(sounds.filter((it) => it.stem === entry.stem)),
+            sound: related.find(isSound) ?? only(sounds.filter((it) => it.stem === entry.stem)),
             image,
-            sheet: beside.find((it) => SHEETS.has(it.ending)),
+            sheet: related.find((it) => SHEETS.has(it.ending)),
             why: entry.why,
         });
     }
-    // If there are only two files, they are a pair whatever their names.
+    // If there are only one graphics file and one sound, they belong together even if their names differ.
     if (items.length === 1 && items[0].image === undefined) {
         items[0].sound ??= only(sounds);
     }
@@ -120,18 +120,19 @@ export function itemsOf(entries) {
 
 const only = (list) => (list.length === 1 ? list[0] : undefined);
 
-/** The files that may have graphics. An image is one only if there is no stream of its name. */
+/** The files that may have graphics. An image counts only if there is no stream with its name. */
 function graphicsIn(entries) {
     const isStream = (it) => it.ending === "cdg" || STREAMS.has(it.ending);
-    const has = (it) => entries.some((other) => isStream(other) && other.ending !== "cdg" && other.folder === it.folder && other.stem === it.stem);
-    const known = entries.filter((it) => isStream(it) || (IMAGES.has(it.ending) && !has(it)));
+    const hasStream = (it) => entries.some((other) => isStream(other) && other.ending !== "cdg" && other.folder === it.folder &&
+        other.stem === it.stem);
+    const known = entries.filter((it) => isStream(it) || (IMAGES.has(it.ending) && !hasStream(it)));
     return known.length > 0 ? known
         : entries.filter((it) => !isSound(it) && !SHEETS.has(it.ending) && !OTHERS.has(it.ending) && it.ending !== "zip");
 }
 
 // ---- sheets
 
-/** The facts in a sheet about the tracks of an image: whether all are audio, and whether the bytes of a sample are swapped. */
+/** Reads from a sheet whether all tracks of an image are audio, and whether the bytes of each sample are swapped. */
 export async function tracksOf(sheet) {
     if (sheet === undefined || sheet.size > MOST_SHEET) {
         return { isAudio: true, isSwapped: false };
@@ -148,7 +149,7 @@ function tracksOfCue(text) {
     };
 }
 
-/** In CloneCD's sheet the fourth control bit of an entry marks a data track. */
+/** Reads a sheet of CloneCD. The control bit 4 of an entry marks a data track. */
 function tracksOfCcd(text) {
     const entries = text.split(/^\s*\[/m).filter((it) => /^Entry/i.test(it));
     const isData = (entry) => {
@@ -166,8 +167,8 @@ const SAMPLES_A_SECOND = 44_100;
 const SAMPLE_BYTES = 4;
 const READ_SECTORS = 4000;
 
-/** The audio of an image as a sound: the first 2,352 bytes of each unit. Units of that size are not copied. */
-export async function soundOfImage(blob, unit, skip, isSwapped, onward) {
+/** The audio of an image as a WAV file: the first 2,352 bytes of each unit. Units of this size are not copied. */
+export async function soundOfImage(blob, unit, skip, isSwapped, onProgress) {
     const sectors = Math.floor((blob.size - skip) / unit);
     if (unit === AUDIO_SECTOR && !isSwapped) {
         return waveOf([blob.slice(skip, skip + unit * sectors)], AUDIO_SECTOR * sectors);
@@ -181,16 +182,16 @@ export async function soundOfImage(blob, unit, skip, isSwapped, onward) {
             audio.set(bytes.subarray(unit * sector, unit * sector + AUDIO_SECTOR), AUDIO_SECTOR * sector);
         }
         if (isSwapped) {
-            exchange(audio);
+            swapBytes(audio);
         }
-        // A blob need not remain in memory.
+        // The browser can move a blob out of memory.
         parts.push(new Blob([audio]));
-        await onward?.((first + count) / sectors);
+        await onProgress?.((first + count) / sectors);
     }
     return waveOf(parts, AUDIO_SECTOR * sectors);
 }
 
-function exchange(bytes) {
+function swapBytes(bytes) {
     for (let at = 0; at + 1 < bytes.length; at += 2) {
         [bytes[at], bytes[at + 1]] = [bytes[at + 1], bytes[at]];
     }

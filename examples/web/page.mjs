@@ -1,6 +1,6 @@
-// The page: opening, playing, showing and saving.
+// The player of the page: it opens, plays, shows and saves files.
 import { MOST_LEAD_IN, HEIGHT, VERSION, WIDTH, load } from "../../lib/web/ribjasper.mjs";
-import { Breath } from "./breath.mjs";
+import { TimeSlice } from "./time_slice.mjs";
 import { AUDIO_SECTOR, entriesOf, filesOfDrop, isSound, itemsOf, soundOfImage, soundType, tracksOf } from "./items.mjs";
 import { clock, packsOfStream, sourceOf } from "./sources.mjs";
 import { Timeline } from "./timeline.mjs";
@@ -10,28 +10,29 @@ import { Transport } from "./transport.mjs";
 const MODULE = undefined;
 
 const STEP_SECONDS = 5;
-// The browser reads a saved file after the click.
+// The browser reads a saved file after the click, so its URL stays valid for this many milliseconds.
 const KEEP_SAVED = 60_000;
 const HIDE_CONTROLS_AFTER = 3000;
-// The greatest delay of the sound at which the picture does not jump back.
+// The greatest delay of the sound, in seconds, at which the picture does not jump back.
 const JITTER = 0.2;
 
-const at = (id) => document.getElementById(id);
+const byId = (id) => document.getElementById(id);
 
 class Page {
-    #canvas = at("screen").getContext("2d");
+    #canvas = byId("screen").getContext("2d");
     #image = new ImageData(WIDTH, HEIGHT);
-    #line = new Timeline(at("line"), (seconds) => this.jump(seconds));
+    #line = new Timeline(byId("line"), (seconds) => this.jump(seconds));
     #transport = new Transport(() => this.#soundChanged(), () => this.#soundFailed());
     #items = [];
     #item = null;
     #source = null;
-    #told = "";
-    // Counts the opened files, so that late results for an earlier file are dropped.
-    #turn = 0;
+    #description = "";
+    // The number of opened files. Results for an earlier file that arrive late are ignored.
+    #opening = 0;
+    // An object that identifies the running save, or null.
     #saving = null;
     // Whether the user wants the page to play, also while the next file is read.
-    #goesOn = false;
+    #wantsToPlay = false;
     #idle = 0;
 
     constructor(ribjasper) {
@@ -52,12 +53,12 @@ class Page {
 
     // ---- opening
 
-    /** Opens files that were chosen together, each with its path, and plays or shows the first. */
+    /** Opens files that are chosen together, each with its path, and plays or shows the first item. */
     async open(files) {
-        await this.#try(async (turn) => {
+        await this.#try(async (opening) => {
             const { entries, wrong } = await entriesOf(files);
             const items = itemsOf(entries);
-            if (turn !== this.#turn) {
+            if (opening !== this.#opening) {
                 return;
             }
             const sounds = entries.filter(isSound);
@@ -66,26 +67,26 @@ class Page {
                 return;
             }
             if (items.length === 0) {
-                throw new Error(wrong.length > 0 ? wrong.join("; ") : "there are no graphics in it: no .cdg file, no subcode, no image");
+                throw new Error(wrong.length > 0 ? wrong.join("; ") : "the files have no graphics: no .cdg file, no subcode, no image");
             }
             this.#items = items;
             this.#listItems(wrong);
             const first = items.find((it) => it.why === "") ?? items[0];
-            await this.#load(first, turn, wrong);
+            await this.#load(first, opening, wrong);
         });
     }
 
     async #try(work) {
-        this.#turn += 1;
-        const turn = this.#turn;
+        this.#opening += 1;
+        const opening = this.#opening;
         try {
-            await work(turn);
+            await work(opening);
         } catch (error) {
-            if (turn === this.#turn) {
-                this.#tell(error.message, true);
+            if (opening === this.#opening) {
+                this.#showMessage(error.message, true);
             }
         } finally {
-            if (turn === this.#turn) {
+            if (opening === this.#opening) {
                 this.#progress(null);
             }
         }
@@ -93,34 +94,34 @@ class Page {
 
     /** Plays or shows an item of the list. */
     choose(item) {
-        return this.#try((turn) => this.#load(item, turn, []));
+        return this.#try((opening) => this.#load(item, opening, []));
     }
 
-    async #load(item, turn, wrong) {
+    async #load(item, opening, wrong) {
         if (item.why !== "") {
             throw new Error([`${item.name} ${item.why}`, ...wrong].join("; "));
         }
-        const onward = (share) => turn === this.#turn && this.#progress(`Reading ${item.name}`, share);
-        onward(0);
-        const { source, form, skip, blob } = await sourceOf(this.ribjasper, item.graphics, onward);
-        const sound = turn === this.#turn ? await this.#soundOf(item, source, form, skip, blob) : null;
-        if (turn !== this.#turn) {
+        const onProgress = (share) => opening === this.#opening && this.#progress(`Reading ${item.name}`, share);
+        onProgress(0);
+        const { source, form, skip, blob } = await sourceOf(this.ribjasper, item.graphics, onProgress);
+        const sound = opening === this.#opening ? await this.#soundOf(item, source, form, skip, blob) : null;
+        if (opening !== this.#opening) {
             return;
         }
-        this.#leave();
-        await source.start(new Breath());
-        if (turn !== this.#turn) {
+        this.#close();
+        await source.start(new TimeSlice());
+        if (opening !== this.#opening) {
             source.close();
             return;
         }
         this.#begin(item, source, sound, wrong);
-        if (this.#goesOn) {
+        if (this.#wantsToPlay) {
             this.play();
         }
     }
 
-    /** Frees what is open. */
-    #leave() {
+    /** Closes the open source. */
+    #close() {
         this.#transport.pause();
         this.#source?.close();
         this.#source = null;
@@ -128,9 +129,9 @@ class Page {
         this.#showButtons();
     }
 
-    /** The sound of an item: `{ blob, offset }`, with a note if it cannot be played. */
+    /** The sound of an item: `{ blob, offset, note }`. The note is a text about the sound, for example why it cannot be played. */
     async #soundOf(item, source, form, skip, graphics) {
-        const nothing = { blob: null, offset: undefined, note: "" };
+        const noSound = { blob: null, offset: undefined, note: "" };
         const isImage = form.unit > AUDIO_SECTOR;
         try {
             if (item.sound !== undefined) {
@@ -138,26 +139,26 @@ class Page {
                 return { blob: new Blob([blob], { type: soundType(item.sound) }), offset: undefined, note: `sound: ${item.sound.name}` };
             }
             if (item.image === undefined && !isImage) {
-                return nothing;
+                return noSound;
             }
             const { isAudio, isSwapped } = await tracksOf(item.sheet);
             const image = item.image === undefined ? graphics : await item.image.blob();
             const unit = item.image === undefined ? form.unit : AUDIO_SECTOR;
             const name = (item.image ?? item.graphics).name;
             if (!isAudio) {
-                return { ...nothing, note: `${name} has data tracks, and its sound is not played` };
+                return { ...noSound, note: `${name} has data tracks, and its sound is not played` };
             }
             if (item.image !== undefined && (image.size % unit !== 0 || image.size / unit !== source.blocks)) {
-                return { ...nothing, note: `${name} is not as long as ${item.graphics.name}, and is not played` };
+                return { ...noSound, note: `${name} has another length than ${item.graphics.name}, and is not played` };
             }
-            const breath = new Breath();
+            const timeSlice = new TimeSlice();
             const blob = await soundOfImage(image, unit, isImage ? skip : 0, isSwapped, async (share) => {
                 this.#progress(`Reading the sound of ${name}`, share);
-                await breath.take();
+                await timeSlice.pause();
             });
             return { blob, offset: source.leadIn / source.rate, note: `sound: that of ${name}` };
         } catch (error) {
-            return { ...nothing, note: `no sound: ${error.message}` };
+            return { ...noSound, note: `no sound: ${error.message}` };
         }
     }
 
@@ -165,20 +166,20 @@ class Page {
         this.#item = item;
         this.#source = source;
         this.#transport.open(source.count / source.rate, blob, offset);
-        this.#told = [`${item.name}: ${source.form}, ${clock(source.count / source.rate)}`, source.told(), note, ...wrong]
+        this.#description = [`${item.name}: ${source.form}, ${clock(source.count / source.rate)}`, source.description(), note, ...wrong]
             .filter((it) => it !== "").join("; ");
-        at("hint").hidden = true;
-        at("play").disabled = false;
-        at("save").disabled = !source.canSave;
-        at("lead-in").disabled = !source.hasDamage;
-        at("lead-in").value = source.leadIn;
-        at("screen").setAttribute("aria-label", `CD+G screen of ${item.name}`);
+        byId("hint").hidden = true;
+        byId("play").disabled = false;
+        byId("save").disabled = !source.canSave;
+        byId("lead-in").disabled = !source.hasDamage;
+        byId("lead-in").value = source.leadIn;
+        byId("screen").setAttribute("aria-label", `CD+G screen of ${item.name}`);
         document.title = `${item.name} in Ribjasper`;
-        at("keys").querySelectorAll("[data-of]").forEach((key) => {
+        byId("keys").querySelectorAll("[data-of]").forEach((key) => {
             key.hidden = (key.dataset.of === "blocks") !== source.hasDamage;
         });
         this.#markItem();
-        this.#tell(this.#told);
+        this.#showMessage(this.#description);
         this.#showButtons();
         this.#showLine();
         this.show(true);
@@ -186,46 +187,46 @@ class Page {
 
     async #setSound(entry) {
         const blob = new Blob([await entry.blob()], { type: soundType(entry) });
-        const [seconds, goesOn] = [this.now, this.isPlaying];
+        const [seconds, wasPlaying] = [this.now, this.isPlaying];
         this.#transport.open(this.#transport.graphics, blob);
         this.#transport.seek(seconds);
-        this.#told += `; sound: ${entry.name}`;
-        this.#tell(this.#told);
+        this.#description += `; sound: ${entry.name}`;
+        this.#showMessage(this.#description);
         this.#showButtons();
-        if (goesOn) {
+        if (wasPlaying) {
             this.play();
         }
     }
 
-    /** Reads the stream again, with a lead-in from the user. */
+    /** Reads the stream again, with a lead-in that the user has entered. */
     async setLeadIn(text) {
         const leadIn = Number(text);
         const source = this.#source;
         if (!source?.hasDamage || text === "" || !Number.isInteger(leadIn) || leadIn < 0 || leadIn > MOST_LEAD_IN) {
-            at("lead-in").value = source?.leadIn ?? 0;
-            this.#tell(`the lead-in is a whole number of blocks up to ${MOST_LEAD_IN.toLocaleString("en")}`, true);
+            byId("lead-in").value = source?.leadIn ?? 0;
+            this.#showMessage(`the lead-in must be a whole number of blocks, at most ${MOST_LEAD_IN.toLocaleString("en")}`, true);
             return;
         }
-        await this.#try(async (turn) => {
+        await this.#try(async (opening) => {
             const before = source.leadIn;
-            const [item, goesOn] = [this.#item, this.isPlaying];
+            const [item, wasPlaying] = [this.#item, this.isPlaying];
             this.pause();
-            await source.read(new Breath(), leadIn);
-            if (turn !== this.#turn || source !== this.#source) {
+            await source.read(new TimeSlice(), leadIn);
+            if (opening !== this.#opening || source !== this.#source) {
                 return;
             }
-            await source.start(new Breath());
-            if (turn !== this.#turn || source !== this.#source) {
+            await source.start(new TimeSlice());
+            if (opening !== this.#opening || source !== this.#source) {
                 return;
             }
             const moved = (leadIn - before) / source.rate;
             this.#transport.move(source.count / source.rate, moved);
-            this.#told = `${item.name}: ${source.form}, ${clock(source.count / source.rate)}; ${source.told()}`;
-            this.#tell(this.#told);
-            at("save").disabled = !source.canSave;
+            this.#description = `${item.name}: ${source.form}, ${clock(source.count / source.rate)}; ${source.description()}`;
+            this.#showMessage(this.#description);
+            byId("save").disabled = !source.canSave;
             this.#showLine();
             this.jump(0);
-            if (goesOn) {
+            if (wasPlaying) {
                 this.play();
             }
         });
@@ -234,12 +235,12 @@ class Page {
     // ---- the list
 
     #listItems(wrong) {
-        const list = at("list");
+        const list = byId("list");
         list.replaceChildren(...this.#items.map((item) => {
             const button = document.createElement("button");
             button.type = "button";
-            const beside = item.sound?.name ?? item.image?.name;
-            button.textContent = item.why === "" ? `${item.graphics.folder}${item.name}${beside === undefined ? "" : ` with ${beside}`}`
+            const related = item.sound?.name ?? item.image?.name;
+            button.textContent = item.why === "" ? `${item.graphics.folder}${item.name}${related === undefined ? "" : ` with ${related}`}`
                 : `${item.graphics.folder}${item.name}: ${item.why}`;
             button.disabled = item.why !== "";
             button.addEventListener("click", () => this.choose(item));
@@ -251,7 +252,7 @@ class Page {
             row.textContent = text;
             return row;
         }));
-        at("files").hidden = this.#items.length + wrong.length < 2;
+        byId("files").hidden = this.#items.length + wrong.length < 2;
     }
 
     #markItem() {
@@ -273,14 +274,14 @@ class Page {
         if (this.#transport.isAtEnd) {
             this.jump(0);
         }
-        this.#goesOn = true;
+        this.#wantsToPlay = true;
         this.#transport.play();
         this.#showButtons();
         this.#tick();
     }
 
     pause() {
-        this.#goesOn = false;
+        this.#wantsToPlay = false;
         this.#transport.pause();
         this.#showButtons();
     }
@@ -294,7 +295,7 @@ class Page {
         }
     }
 
-    /** Seeks to a second on behalf of the user. */
+    /** Seeks to a second that the user has chosen. */
     jump(seconds) {
         if (this.#source === null) {
             return;
@@ -326,13 +327,13 @@ class Page {
     }
 
     #soundFailed() {
-        this.#tell(`${this.#told}; the browser cannot play the sound`, true);
+        this.#showMessage(`${this.#description}; the browser cannot play the sound`, true);
         this.#showLine();
     }
 
     // ---- showing
 
-    /** Shows the current picture. If the sound is a little late while it plays, the picture does not jump back. */
+    /** Shows the current picture. If the sound is slightly late during playback, the picture does not jump back. */
     show(isExact) {
         const source = this.#source;
         if (source === null) {
@@ -350,11 +351,11 @@ class Page {
     }
 
     #showTime() {
-        at("time").textContent = `${clock(this.now)} / ${clock(this.seconds)}`;
+        byId("time").textContent = `${clock(this.now)} / ${clock(this.seconds)}`;
     }
 
     #paint() {
-        const kind = at("background").value;
+        const kind = byId("background").value;
         const { player } = this.#source.seeker;
         const options = { levels: kind === "levels", clear: kind === "border" ? [player.shown().border] : [] };
         const changed = player.update(this.#image, options);
@@ -364,7 +365,7 @@ class Page {
     }
 
     setBackground(kind) {
-        at("stage").classList.toggle("clear", kind !== "opaque");
+        byId("stage").classList.toggle("clear", kind !== "opaque");
         this.show(true);
     }
 
@@ -373,27 +374,27 @@ class Page {
     }
 
     #showButtons() {
-        at("play").textContent = this.isPlaying ? "Pause" : "Play";
-        at("volume").disabled = !this.#transport.hasSound;
+        byId("play").textContent = this.isPlaying ? "Pause" : "Play";
+        byId("volume").disabled = !this.#transport.hasSound;
         this.wake();
     }
 
-    #tell(text, isWrong = false) {
-        at("told").textContent = text;
-        at("told").classList.toggle("wrong", isWrong);
+    #showMessage(text, isWrong = false) {
+        byId("message").textContent = text;
+        byId("message").classList.toggle("wrong", isWrong);
     }
 
     #progress(text, share = 0) {
-        at("busy").hidden = text === null;
+        byId("busy").hidden = text === null;
         if (text !== null) {
-            at("doing").textContent = text;
-            at("share").value = share;
+            byId("doing").textContent = text;
+            byId("share").value = share;
         }
     }
 
     // ---- saving
 
-    /** Saves the packs of a stream as a .cdg file, in parts, or cancels this. */
+    /** Saves the packs of a stream as a .cdg file, or cancels a running save. */
     async save() {
         if (this.#saving !== null) {
             this.#saving = null;
@@ -401,30 +402,30 @@ class Page {
         }
         const [item, source] = [this.#item, this.#source];
         const name = `${item.name.replace(/\.[^.]*$/, "")}.cdg`;
-        const mine = {};
-        this.#saving = mine;
-        at("save").textContent = "Cancel saving";
-        const onward = (share) => this.#progress(`Writing ${name}`, share);
+        const saving = {};
+        this.#saving = saving;
+        byId("save").textContent = "Cancel saving";
+        const onProgress = (share) => this.#progress(`Writing ${name}`, share);
         try {
-            const blob = await packsOfStream(source, onward, () => this.#saving === mine);
+            const blob = await packsOfStream(source, onProgress, () => this.#saving === saving);
             if (blob !== null) {
-                giveFile(blob, name);
+                download(blob, name);
             }
-            this.#tellOf(item, blob === null ? `${name} is not saved` : `${name} is saved: ${blob.size} bytes`);
+            this.#showMessageOf(item, blob === null ? `${name} is not saved` : `${name} is saved: ${blob.size} bytes`);
         } catch (error) {
-            this.#tellOf(item, `${name} is not saved: ${error.message}`, true);
+            this.#showMessageOf(item, `${name} is not saved: ${error.message}`, true);
         }
         if (this.#item === item) {
             this.#saving = null;
             this.#progress(null);
         }
-        at("save").textContent = "Save as .cdg";
+        byId("save").textContent = "Save as .cdg";
     }
 
-    // Late messages about an earlier file do not replace those about the next one.
-    #tellOf(item, text, isWrong = false) {
+    // Late messages about an earlier file do not replace messages about the next one.
+    #showMessageOf(item, text, isWrong = false) {
         if (this.#item === item) {
-            this.#tell(text, isWrong);
+            this.#showMessage(text, isWrong);
         }
     }
 
@@ -432,7 +433,7 @@ class Page {
 
     set volume(share) {
         this.#transport.volume = share;
-        at("volume").setAttribute("aria-valuetext", `${Math.round(100 * share)} percent`);
+        byId("volume").setAttribute("aria-valuetext", `${Math.round(100 * share)} percent`);
     }
 
     set rate(rate) {
@@ -441,23 +442,23 @@ class Page {
 
     async fullScreen() {
         try {
-            await (document.fullscreenElement === null ? at("player").requestFullscreen() : document.exitFullscreen());
+            await (document.fullscreenElement === null ? byId("player").requestFullscreen() : document.exitFullscreen());
         } catch {
-            this.#tell("the browser does not allow full screen here", true);
+            this.#showMessage("the browser does not allow full screen here", true);
         }
     }
 
-    /** Shows the controls in full screen, which are hidden while the pointer rests. */
+    /** Shows the controls again in full screen; they are hidden while the pointer does not move. */
     wake() {
-        at("player").classList.remove("idle");
+        byId("player").classList.remove("idle");
         clearTimeout(this.#idle);
         if (document.fullscreenElement !== null && this.isPlaying) {
-            this.#idle = setTimeout(() => at("player").classList.add("idle"), HIDE_CONTROLS_AFTER);
+            this.#idle = setTimeout(() => byId("player").classList.add("idle"), HIDE_CONTROLS_AFTER);
         }
     }
 }
 
-function giveFile(blob, name) {
+function download(blob, name) {
     const link = document.createElement("a");
     link.href = URL.createObjectURL(blob);
     link.download = name;
@@ -466,30 +467,30 @@ function giveFile(blob, name) {
 }
 
 function listenToControls(page) {
-    at("play").addEventListener("click", () => page.toggle());
-    at("save").addEventListener("click", () => page.save());
-    at("open").addEventListener("click", () => at("file").click());
-    at("file").addEventListener("change", (event) => {
+    byId("play").addEventListener("click", () => page.toggle());
+    byId("save").addEventListener("click", () => page.save());
+    byId("open").addEventListener("click", () => byId("file").click());
+    byId("file").addEventListener("change", (event) => {
         const files = [...event.target.files].map((file) => ({ path: file.name, file }));
-        // The user can choose the same file again.
+        // With an empty value, the user can choose the same file again.
         event.target.value = "";
         if (files.length > 0) {
             page.open(files);
         }
     });
-    at("volume").addEventListener("input", (event) => { page.volume = event.target.value / 100; });
-    at("speed").addEventListener("change", (event) => { page.rate = Number(event.target.value); });
-    at("background").addEventListener("change", (event) => page.setBackground(event.target.value));
-    at("lead-in").addEventListener("change", (event) => page.setLeadIn(event.target.value));
-    at("full").addEventListener("click", () => page.fullScreen());
-    at("screen").addEventListener("click", () => page.toggle());
-    at("full").hidden = !document.fullscreenEnabled;
+    byId("volume").addEventListener("input", (event) => { page.volume = event.target.value / 100; });
+    byId("speed").addEventListener("change", (event) => { page.rate = Number(event.target.value); });
+    byId("background").addEventListener("change", (event) => page.setBackground(event.target.value));
+    byId("lead-in").addEventListener("change", (event) => page.setLeadIn(event.target.value));
+    byId("full").addEventListener("click", () => page.fullScreen());
+    byId("screen").addEventListener("click", () => page.toggle());
+    byId("full").hidden = !document.fullscreenEnabled;
     document.addEventListener("fullscreenchange", () => {
-        at("full").textContent = document.fullscreenElement === null ? "Full screen" : "Leave full screen";
+        byId("full").textContent = document.fullscreenElement === null ? "Full screen" : "Leave full screen";
         page.wake();
         page.show(true);
     });
-    // The focused element may be hidden, so the window handles keys.
+    // The window handles these events, because the focused element may be hidden.
     for (const kind of ["pointermove", "pointerdown", "keydown", "focusin"]) {
         addEventListener(kind, () => page.wake(), true);
     }
@@ -515,8 +516,8 @@ function listenToWindow(page) {
     // Space and arrow keys work unless the focused control needs them.
     addEventListener("keydown", (event) => {
         const steps = new Map([["ArrowLeft", -STEP_SECONDS], ["ArrowRight", STEP_SECONDS]]);
-        const isTaken = event.target.closest?.("button, input, select, a, summary") !== null;
-        if (isTaken || event.ctrlKey || event.altKey || event.metaKey) {
+        const isUsed = event.target.closest?.("button, input, select, a, summary") !== null;
+        if (isUsed || event.ctrlKey || event.altKey || event.metaKey) {
             return;
         }
         if (event.key === " ") {
@@ -531,8 +532,8 @@ function listenToWindow(page) {
 async function start() {
     const bytes = MODULE === undefined ? undefined : Uint8Array.from(atob(MODULE), (letter) => letter.charCodeAt(0));
     const page = new Page(await load(bytes));
-    at("about").textContent = `Ribjasper ${VERSION}. Proved functions, compiled to WebAssembly, compute words, packs, pixels and ` +
-        "counts; the counts are those of the command check. Nothing leaves this page.";
+    byId("about").textContent = `Ribjasper ${VERSION}. Proved functions, compiled to WebAssembly, compute words, packs, pixels and ` +
+        "counts; the counts are those of the command check. No data leaves this page.";
     listenToControls(page);
     listenToWindow(page);
     page.show(true);
@@ -540,6 +541,6 @@ async function start() {
 }
 
 start().then((page) => { globalThis.page = page; }, (error) => {
-    at("told").textContent = `${error.message}. This browser may be too old: Chromium 133 and Firefox 134 run each build of this page.`;
-    at("told").classList.add("wrong");
+    byId("message").textContent = `${error.message}. This browser may be too old: Chromium 133 and Firefox 134 run this page.`;
+    byId("message").classList.add("wrong");
 });

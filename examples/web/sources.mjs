@@ -1,6 +1,6 @@
-// What is played: the packs of a .cdg file, or the blocks of a stream, whose damage is shown.
+// The sources that the page plays: the packs of a .cdg file, or the blocks of a stream with their damage.
 import { BLOCKS_A_SECOND, BLOCK_BYTES, MOST_LEAD_IN, PACKS_A_SECOND, PACK_BYTES } from "../../lib/web/ribjasper.mjs";
-import { Breath } from "./breath.mjs";
+import { TimeSlice } from "./time_slice.mjs";
 import { bytesOfBlob, formNamed, formOf, leadInOfSurvey, subcodeOf } from "./detect.mjs";
 
 const MOST_BLOCKS = 1_000_000;
@@ -14,19 +14,19 @@ export const clock = (seconds) => {
     return `${String(Math.floor(whole / 60)).padStart(2, "0")}:${String(whole % 60).padStart(2, "0")}`;
 };
 
-/** Plays a stream once to set its marks, so that a mark is near each place. */
-async function passThrough(seeker, breath) {
+/** Plays a stream once to set its marks. Afterwards seeking is fast, because a mark is near each place. */
+async function setMarks(seeker, timeSlice) {
     const step = Math.ceil(seeker.length / STEPS);
     for (let at = 0; at < seeker.length; at += step) {
         seeker.seek(at);
-        await breath.take();
+        await timeSlice.pause();
     }
     seeker.seek(0);
 }
 
 const piecesFor = (count) => Array.from({ length: Math.min(PIECES, count) }, () => ({ drawn: 0, corrected: 0, bad: 0, all: 0 }));
 
-/** A .cdg file: packs, 300 per second. */
+/** The source for a .cdg file: packs, 300 per second. */
 class Packs {
     rate = PACKS_A_SECOND;
     leadIn = 0;
@@ -42,11 +42,11 @@ class Packs {
     }
 
     get form() {
-        return formNamed("cdg").told;
+        return formNamed("cdg").label;
     }
 
-    /** The share of drawing packs in each piece of the time. */
-    async read(breath) {
+    /** Counts the packs and the drawing packs in each piece of time. */
+    async read(timeSlice) {
         this.pieces = piecesFor(this.count);
         for (let k = 0; k < this.count; k += 1) {
             const piece = this.pieces[Math.floor((k * this.pieces.length) / this.count)];
@@ -56,15 +56,15 @@ class Packs {
                 this.drawn += 1;
             }
             if (k % 10_000 === 0) {
-                await breath.take();
+                await timeSlice.pause();
             }
         }
     }
 
-    /** Sets the player. */
-    async start(breath) {
+    /** Makes the player. */
+    async start(timeSlice) {
         this.seeker = this.ribjasper.seeker(this.bytes, { form: "cdg" });
-        await passThrough(this.seeker, breath);
+        await setMarks(this.seeker, timeSlice);
     }
 
     goTo(position) {
@@ -79,13 +79,13 @@ class Packs {
         this.seeker?.close();
     }
 
-    told() {
-        const torn = this.rest > 0 ? `; torn: ${this.rest} bytes behind the last whole pack` : "";
+    description() {
+        const torn = this.rest > 0 ? `; torn: ${this.rest} bytes after the last whole pack` : "";
         return `${this.count} packs, ${this.drawn === 0 ? "none" : this.drawn} of them graphics${torn}`;
     }
 }
 
-/** A stream: blocks, 75 per second. Time zero is the end of its lead-in. */
+/** The source for a stream: blocks, 75 per second. Time zero is the end of the lead-in. */
 class Blocks {
     rate = BLOCKS_A_SECOND;
     hasDamage = true;
@@ -93,7 +93,7 @@ class Blocks {
     constructor(ribjasper, bytes, form, rest) {
         this.ribjasper = ribjasper;
         this.bytes = bytes;
-        this.form = form.told;
+        this.form = form.label;
         this.rest = rest;
         this.options = { form: form.coding === "packs" ? "packs" : "raw", leadIn: 0 };
         this.blocks = bytes.length / BLOCK_BYTES;
@@ -111,15 +111,15 @@ class Blocks {
         return this.count > 0;
     }
 
-    /** Surveys the stream with the given lead-in, or otherwise with the one from Q. */
-    async read(breath, leadIn) {
-        this.survey = await this.#surveyed(breath, leadIn ?? 0);
+    /** Surveys the stream with this lead-in, or otherwise with the lead-in according to Q. */
+    async read(timeSlice, leadIn) {
+        this.survey = await this.#surveyBlocks(timeSlice, leadIn ?? 0);
         this.source = leadIn === undefined ? "Q" : "you";
         if (leadIn === undefined && this.options.form === "raw") {
             const found = await leadInOfSurvey(this.survey);
             this.source = found === null ? "none" : "Q";
             if (found !== null && found > 0 && found <= MOST_LEAD_IN) {
-                this.survey = await this.#surveyed(breath, found);
+                this.survey = await this.#surveyBlocks(timeSlice, found);
             }
         }
         this.sums = this.survey.sums();
@@ -131,20 +131,20 @@ class Blocks {
             piece.corrected += words.one + words.two;
             piece.bad += words.bad;
             if (block % 10_000 === 0) {
-                await breath.take();
+                await timeSlice.pause();
             }
         }
     }
 
-    /** Sets the player, with the lead-in that was surveyed last. */
-    async start(breath) {
+    /** Makes the player, with the lead-in of the last survey. */
+    async start(timeSlice) {
         this.seeker?.close();
         this.seeker = this.ribjasper.seeker(this.bytes, this.options);
-        await passThrough(this.seeker, breath);
+        await setMarks(this.seeker, timeSlice);
         this.goTo(0);
     }
 
-    async #surveyed(breath, leadIn) {
+    async #surveyBlocks(timeSlice, leadIn) {
         this.options = { ...this.options, leadIn };
         const work = this.ribjasper.surveying(this.bytes, this.options);
         for (;;) {
@@ -152,7 +152,7 @@ class Blocks {
             if (done) {
                 return value;
             }
-            await breath.take();
+            await timeSlice.pause();
         }
     }
 
@@ -168,22 +168,22 @@ class Blocks {
         this.seeker?.close();
     }
 
-    told() {
+    description() {
         const { clean, one, two, bad, frames, badFrames } = this.sums;
-        const leadIns = { Q: "by Q", you: "as you set it", none: "unknown, as no Q frame tells: set it if there is one" };
+        const leadIns = { Q: "by Q", you: "as you set it", none: "unknown, because no Q frame gives it: set it if there is one" };
         const q = this.options.form === "packs" ? "" : `; Q frames: ${frames} good, ${badFrames} bad`;
         const leadIn = this.options.form === "packs" && this.source !== "you" ? ""
             : `; lead-in: ${this.source === "none" ? leadIns.none : `${this.leadIn} blocks, ${leadIns[this.source]}`}`;
-        const torn = this.rest > 0 ? `; torn: ${this.rest} bytes behind the last whole unit` : "";
+        const torn = this.rest > 0 ? `; torn: ${this.rest} bytes after the last whole unit` : "";
         return `${this.count} blocks; words: ${clean} clean, ${one} with one wrong symbol, ${two} with two, ${bad} bad` +
             `${q}${leadIn}${torn}`;
     }
 }
 
-/** A file as something to play. `onward` is called with the share that has been read. */
-export async function sourceOf(ribjasper, entry, onward) {
+/** Makes a source of a file. `onProgress` is called with the share that has been read. */
+export async function sourceOf(ribjasper, entry, onProgress) {
     const blob = await entry.blob();
-    const { form, skip } = entry.ending === "cdg" ? { form: formNamed("cdg"), skip: 0 } : await foundForm(ribjasper, entry, blob);
+    const { form, skip } = entry.ending === "cdg" ? { form: formNamed("cdg"), skip: 0 } : await detectedForm(ribjasper, entry, blob);
     const units = Math.floor((blob.size - skip) / form.unit);
     const rest = (blob.size - skip) % form.unit;
     if (units === 0) {
@@ -192,48 +192,48 @@ export async function sourceOf(ribjasper, entry, onward) {
     if (units * (form.coding === "cdg" ? PACK_BYTES : BLOCK_BYTES) > BLOCK_BYTES * MOST_BLOCKS) {
         throw new Error(`${entry.name} has more than ${MOST_BLOCKS.toLocaleString("en")} blocks`);
     }
-    const bytes = await subcodeOfFile(ribjasper, blob, form, skip, units, onward);
+    const bytes = await subcodeOfFile(ribjasper, blob, form, skip, units, onProgress);
     const source = form.coding === "cdg" ? new Packs(ribjasper, bytes, rest) : new Blocks(ribjasper, bytes, form, rest);
-    await source.read(new Breath());
+    await source.read(new TimeSlice());
     return { source, form, skip, blob };
 }
 
-async function foundForm(ribjasper, entry, blob) {
+async function detectedForm(ribjasper, entry, blob) {
     const { found, why } = await formOf(ribjasper, blob);
     if (found === null) {
         throw new Error(`${entry.name} cannot be played: ${why}`);
     }
     if (found.form.coding === "pq") {
-        throw new Error(`${entry.name} has ${found.form.told}, which hold no graphics`);
+        throw new Error(`${entry.name} has ${found.form.label}, which have no graphics`);
     }
     return found;
 }
 
-async function subcodeOfFile(ribjasper, blob, form, skip, units, onward) {
+async function subcodeOfFile(ribjasper, blob, form, skip, units, onProgress) {
     const bytes = new Uint8Array(units * form.size);
     const atOnce = Math.max(1, Math.floor(READ_BYTES / form.unit));
-    const breath = new Breath();
+    const timeSlice = new TimeSlice();
     for (let first = 0; first < units; first += atOnce) {
         const count = Math.min(atOnce, units - first);
         const piece = await bytesOfBlob(blob, skip + form.unit * first, skip + form.unit * (first + count));
         bytes.set(subcodeOf(ribjasper, piece, form), form.size * first);
-        onward?.((first + count) / units);
-        await breath.take();
+        onProgress?.((first + count) / units);
+        await timeSlice.pause();
     }
     return bytes;
 }
 
 /** The packs of a stream as a .cdg file, in parts. */
-export async function packsOfStream(source, onward, isWanted) {
+export async function packsOfStream(source, onProgress, isActive) {
     const parts = [];
-    const breath = new Breath();
+    const timeSlice = new TimeSlice();
     for (const part of source.ribjasper.converting(source.bytes, source.options)) {
         parts.push(part.packs);
-        await breath.take();
-        if (!isWanted()) {
+        await timeSlice.pause();
+        if (!isActive()) {
             return null;
         }
-        onward(part.done / part.of);
+        onProgress(part.done / part.of);
     }
     return new Blob(parts, { type: "application/octet-stream" });
 }

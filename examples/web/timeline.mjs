@@ -1,10 +1,10 @@
-// The timeline: a slider that also shows where the stream draws, and where it is damaged.
+// The timeline: a slider that also shows the places where the stream draws, and where it is damaged.
 
 const STEP = 5;
 const LONG_STEP = 30;
 
-/** Seconds in words, for screen readers. */
-export function spoken(seconds) {
+/** A time in words, for screen readers. */
+export function timeInWords(seconds) {
     const whole = Math.max(0, Math.floor(seconds));
     const [minutes, rest] = [Math.floor(whole / 60), whole % 60];
     const count = (number, word) => `${number} ${word}${number === 1 ? "" : "s"}`;
@@ -18,11 +18,11 @@ export class Timeline {
     #length = 0;
     #now = 0;
     #jump;
-    // The pieces as they were last drawn, and the data from which they were drawn.
+    // The image of the pieces, and the sizes and colours with which it was drawn.
     #layer = document.createElement("canvas");
-    #drawn = "";
+    #layerKey = "";
 
-    /** Calls `jump` with the second that the user chooses. */
+    /** Calls `jump` with each second that the user chooses. */
     constructor(canvas, jump) {
         this.#canvas = canvas;
         this.#jump = jump;
@@ -58,20 +58,20 @@ export class Timeline {
         }
     }
 
-    /** The data that is shown: pieces of the graphics, their length in seconds, and the total length. */
+    /** Sets the data to show: the pieces of the graphics, the length of the graphics in seconds, and the total length. */
     show(pieces, graphics, length) {
         this.#pieces = pieces;
         this.#graphics = graphics;
         this.#length = length;
         this.#canvas.setAttribute("aria-valuemax", Math.floor(length));
         this.#canvas.setAttribute("aria-disabled", String(length === 0));
-        this.#drawn = "";
+        this.#layerKey = "";
         this.draw(this.#now);
     }
 
     draw(now) {
         this.#now = now;
-        this.#tell();
+        this.#updateLabel();
         const canvas = this.#canvas;
         const scale = globalThis.devicePixelRatio ?? 1;
         const [width, height] = [canvas.clientWidth, canvas.clientHeight].map((it) => Math.max(1, Math.round(it * scale)));
@@ -81,11 +81,11 @@ export class Timeline {
         const to = canvas.getContext("2d");
         const style = getComputedStyle(canvas);
         const colour = (name) => style.getPropertyValue(`--${name}`);
-        const wanted = [width, height, colour("line"), colour("drawn")].join();
-        if (this.#drawn !== wanted) {
+        const key = [width, height, colour("line"), colour("drawn")].join();
+        if (this.#layerKey !== key) {
             [this.#layer.width, this.#layer.height] = [width, height];
             this.#drawPieces(this.#layer.getContext("2d"), width, height, colour);
-            this.#drawn = wanted;
+            this.#layerKey = key;
         }
         to.clearRect(0, 0, width, height);
         to.drawImage(this.#layer, 0, 0);
@@ -118,7 +118,7 @@ export class Timeline {
         }
     }
 
-    /** The sum of the pieces between two shares of the time, at least one piece. */
+    /** The sum of the pieces between two shares of the time; it includes at least one piece. */
     #between(from, to) {
         const count = this.#pieces.length;
         const first = Math.min(count - 1, Math.floor(from * count));
@@ -132,8 +132,8 @@ export class Timeline {
         return sum;
     }
 
-    #tell() {
-        const text = `${spoken(this.#now)} of ${spoken(this.#length)}`;
+    #updateLabel() {
+        const text = `${timeInWords(this.#now)} of ${timeInWords(this.#length)}`;
         if (this.#canvas.getAttribute("aria-valuetext") !== text) {
             this.#canvas.setAttribute("aria-valuenow", Math.floor(Math.min(this.#now, this.#length)));
             this.#canvas.setAttribute("aria-valuetext", text);

@@ -1,22 +1,22 @@
-// The time of playback: the time of the sound while it plays, and otherwise the time of a clock.
+// The time of playback: the time of the sound while the sound plays, and otherwise the time of a clock.
 
 /** The time of playback in seconds. Either the graphics or the sound (if there is one) may be longer. */
 export class Transport {
     #sound = null;
-    #address = "";
+    #url = "";
     // The second of the sound at which the graphics begin.
     #offset = 0;
-    // Whether the sound comes from the stream, with the same lead-in.
-    #follows = false;
-    #isOver = true;
+    // Whether the sound begins with the lead-in of the stream.
+    #hasLeadIn = false;
+    #soundEnded = true;
     #position = 0;
-    #since = 0;
+    #clockStart = 0;
     #isRunning = false;
     #rate = 1;
     #volume = 1;
     #failed;
 
-    /** Calls `changed` when the length of the sound is known or the sound ends, and `failed` if it cannot be played. */
+    /** Calls `changed` when the length of the sound becomes known or the sound ends, and `failed` if the sound cannot be played. */
     constructor(changed, failed) {
         this.changed = changed;
         this.#failed = failed;
@@ -36,28 +36,28 @@ export class Transport {
         if (!this.#isRunning) {
             return this.#position;
         }
-        return this.#isOver ? this.#position + ((performance.now() - this.#since) / 1000) * this.#rate
+        return this.#soundEnded ? this.#position + ((performance.now() - this.#clockStart) / 1000) * this.#rate
             : Math.max(0, this.#sound.currentTime - this.#offset);
     }
 
-    /** The length of the sound from the beginning of the graphics on, if it is known. */
-    get sounding() {
+    /** The length of the sound after the beginning of the graphics, or 0 if it is not known. */
+    get soundLength() {
         const length = this.#sound?.duration ?? 0;
         return Number.isFinite(length) ? Math.max(0, length - this.#offset) : 0;
     }
 
     get length() {
-        return Math.max(this.graphics, this.sounding);
+        return Math.max(this.graphics, this.soundLength);
     }
 
     /** Whether both graphics and sound have ended. */
     get isAtEnd() {
-        return this.#isOver && this.now >= this.graphics;
+        return this.#soundEnded && this.now >= this.graphics;
     }
 
     /**
-     * Stops, and starts again with graphics of this length and with a sound or none. A sound that comes from the stream
-     * includes the lead-in of the stream, `offset` seconds.
+     * Stops, and prepares graphics of this length and an optional sound. If the sound begins with the lead-in of the stream,
+     * `offset` is the length of the lead-in in seconds.
      */
     open(graphics, blob = null, offset = undefined) {
         this.pause();
@@ -65,32 +65,32 @@ export class Transport {
         this.graphics = graphics;
         this.#position = 0;
         this.#offset = offset ?? 0;
-        this.#follows = offset !== undefined;
+        this.#hasLeadIn = offset !== undefined;
         if (blob === null) {
             return;
         }
         const sound = new Audio();
-        this.#address = URL.createObjectURL(blob);
+        this.#url = URL.createObjectURL(blob);
         sound.preload = "auto";
-        sound.addEventListener("durationchange", () => this.#of(sound, () => this.changed()));
-        sound.addEventListener("ended", () => this.#of(sound, () => this.#end()));
-        sound.addEventListener("error", () => this.#of(sound, () => {
-            this.#goOnWithout();
+        sound.addEventListener("durationchange", () => this.#ifCurrent(sound, () => this.changed()));
+        sound.addEventListener("ended", () => this.#ifCurrent(sound, () => this.#end()));
+        sound.addEventListener("error", () => this.#ifCurrent(sound, () => {
+            this.#continueWithoutSound();
             this.#failed();
         }));
-        sound.src = this.#address;
+        sound.src = this.#url;
         sound.volume = this.#volume;
         sound.defaultPlaybackRate = this.#rate;
         sound.playbackRate = this.#rate;
-        // Without controls, the element is hidden.
+        // An audio element without controls is hidden.
         document.body.append(sound);
         this.#sound = sound;
-        this.#isOver = false;
+        this.#soundEnded = false;
         this.seek(0);
     }
 
     // Late events of an earlier sound are ignored.
-    #of(sound, work) {
+    #ifCurrent(sound, work) {
         if (sound === this.#sound) {
             work();
         }
@@ -101,36 +101,36 @@ export class Transport {
         this.#sound?.remove();
         this.#sound?.removeAttribute("src");
         this.#sound = null;
-        this.#isOver = true;
-        URL.revokeObjectURL(this.#address);
+        this.#soundEnded = true;
+        URL.revokeObjectURL(this.#url);
     }
 
-    #goOnWithout() {
+    #continueWithoutSound() {
         this.#position = this.now;
-        this.#since = performance.now();
+        this.#clockStart = performance.now();
         this.#drop();
     }
 
     /** The clock continues where the sound ended. */
     #end() {
-        this.#position = Math.max(this.now, this.sounding);
-        this.#since = performance.now();
-        this.#isOver = true;
+        this.#position = Math.max(this.now, this.soundLength);
+        this.#clockStart = performance.now();
+        this.#soundEnded = true;
         this.changed();
     }
 
     play() {
         this.#isRunning = true;
-        this.#since = performance.now();
-        this.#sing();
+        this.#clockStart = performance.now();
+        this.#playSound();
     }
 
-    #sing() {
-        if (this.#sound === null || this.#isOver) {
+    #playSound() {
+        if (this.#sound === null || this.#soundEnded) {
             return;
         }
         this.#sound.play().catch((error) => {
-            // A broken sound reports an error event; one that is paused at once has not failed.
+            // A damaged sound causes an error event instead. A sound that is paused at once also rejects, but has not failed.
             if (error.name === "NotAllowedError") {
                 this.pause();
                 this.changed();
@@ -146,34 +146,34 @@ export class Transport {
 
     seek(seconds) {
         this.#position = Math.max(0, Math.min(seconds, this.length));
-        this.#since = performance.now();
+        this.#clockStart = performance.now();
         if (this.#sound === null) {
             return;
         }
         const at = this.#position + this.#offset;
         const { duration } = this.#sound;
-        this.#isOver = Number.isFinite(duration) && at >= duration;
-        if (this.#isOver) {
+        this.#soundEnded = Number.isFinite(duration) && at >= duration;
+        if (this.#soundEnded) {
             this.#sound.pause();
             return;
         }
         this.#sound.currentTime = at;
         if (this.#isRunning) {
-            this.#sing();
+            this.#playSound();
         }
     }
 
-    /** Changes the length of the graphics, and their beginning in the sound. */
+    /** Changes the length of the graphics, and moves their beginning in the sound by some seconds. */
     move(graphics, seconds) {
         this.graphics = graphics;
-        if (this.#follows) {
+        if (this.#hasLeadIn) {
             this.#offset = Math.max(0, this.#offset + seconds);
         }
     }
 
     set rate(rate) {
         this.#position = this.now;
-        this.#since = performance.now();
+        this.#clockStart = performance.now();
         this.#rate = rate;
         if (this.#sound !== null) {
             this.#sound.defaultPlaybackRate = rate;

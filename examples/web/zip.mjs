@@ -1,5 +1,5 @@
-// The files in a zip, which are unpacked only when they are read. The browser inflates (DecompressionStream); this module reads
-// the directory and checks it: no value in the file is trusted without a limit.
+// Reads zips. A file is unpacked only when it is read. The browser decompresses (DecompressionStream); this module reads and
+// checks the directory, with a limit for each value in the zip.
 
 const END = 0x06054b50;
 const END_BYTES = 22;
@@ -21,7 +21,7 @@ const METHODS = new Map([[1, "shrinking"], [6, "imploding"], [9, "Deflate64"], [
 export const MOST_UNPACKED = 512 * 2 ** 20;
 const MOST_DIRECTORY = 32 * 2 ** 20;
 const MOST_ENTRIES = 65_536;
-// Packed bytes are passed to the browser in small slices, because each may become a thousand times as long.
+// Packed bytes are passed to the browser in small slices, because each slice may become a thousand times longer.
 const READ_AT_ONCE = 1 << 18;
 const SLICE = 1 << 14;
 
@@ -33,7 +33,7 @@ const CRC_TABLE = Uint32Array.from({ length: 256 }, (_, byte) => {
     return value;
 });
 
-function crcOn(crc, bytes) {
+function updatedCrc(crc, bytes) {
     let value = ~crc;
     for (let k = 0; k < bytes.length; k += 1) {
         value = CRC_TABLE[(value ^ bytes[k]) & 0xff] ^ (value >>> 8);
@@ -46,16 +46,16 @@ export class ZipError extends Error {}
 
 async function numbersAt(blob, from, size) {
     if (from < 0 || from + size > blob.size) {
-        throw new ZipError("the zip is cut off: its directory points outside of it");
+        throw new ZipError("the zip is cut off: its directory refers to bytes outside of it");
     }
     return new DataView(await blob.slice(from, from + size).arrayBuffer());
 }
 
-/** An eight-byte number that JavaScript can represent exactly. */
+/** An eight-byte number, which must be one that JavaScript can represent exactly. */
 function wide(numbers, at) {
     const value = Number(numbers.getBigUint64(at, true));
     if (!Number.isSafeInteger(value)) {
-        throw new ZipError("the zip gives a size that cannot be right");
+        throw new ZipError("the zip has an impossible size");
     }
     return value;
 }
@@ -69,7 +69,7 @@ export async function isZip(blob) {
     return numbers.getUint32(0, true) === LOCAL || (await findEnd(blob)) !== null;
 }
 
-/** The record at the end of the zip, or null. Bytes behind it are tolerated. */
+/** The record at the end of the zip, or null. Bytes after it are allowed. */
 async function findEnd(blob) {
     const size = Math.min(blob.size, END_BYTES + MOST_COMMENT);
     const start = blob.size - size;
@@ -94,7 +94,7 @@ async function findEnd(blob) {
     return loose;
 }
 
-/** The same record of a zip64, if there is one. */
+/** The record of a zip64, or null if the zip has none. */
 async function findEnd64(blob, end) {
     if (end.at < LOCATOR_BYTES) {
         return null;
@@ -103,7 +103,7 @@ async function findEnd64(blob, end) {
     if (locator.getUint32(0, true) !== LOCATOR) {
         return null;
     }
-    // Bytes before the zip move the record away from the place in the locator; then the record is directly before the locator.
+    // If other bytes precede the zip, the place in the locator is wrong; then the record is directly before the locator.
     const places = [wide(locator, 8), end.at - LOCATOR_BYTES - END_64_BYTES];
     for (const at of places.filter((it) => it >= 0 && it + END_64_BYTES <= end.at)) {
         const numbers = await numbersAt(blob, at, END_64_BYTES);
@@ -114,11 +114,11 @@ async function findEnd64(blob, end) {
     throw new ZipError("the zip64 record of the zip is missing");
 }
 
-/** The files in a zip: name, size, and `blob()`, which unpacks. Folders and additions of macOS are left out. */
+/** The files in a zip: name, size, and `blob()`, which unpacks the file. Folders and files added by macOS are omitted. */
 export async function zipFiles(blob) {
     const short = await findEnd(blob);
     if (short === null) {
-        throw new ZipError("the zip has no directory: it is cut off or no zip");
+        throw new ZipError("the zip has no directory: it is cut off, or the file is not a zip");
     }
     const end = (await findEnd64(blob, short)) ?? short;
     if (end.size > MOST_DIRECTORY || end.count > MOST_ENTRIES) {
@@ -129,7 +129,7 @@ export async function zipFiles(blob) {
     let at = 0;
     for (let k = 0; k < end.count; k += 1) {
         if (at + ENTRY_BYTES > directory.byteLength || directory.getUint32(at, true) !== ENTRY) {
-            throw new ZipError(`the directory of the zip is broken behind file ${k}`);
+            throw new ZipError(`the directory of the zip is damaged after file ${k}`);
         }
         const [entry, size] = readEntry(directory, at, before);
         at += size;
@@ -140,7 +140,7 @@ export async function zipFiles(blob) {
     return files;
 }
 
-/** The directory, which ends where the record begins. Bytes before the zip, for example of a program, move all offsets. */
+/** The directory, which ends where the record begins. Bytes before the zip, for example a program, change all offsets. */
 async function directoryOf(blob, end) {
     for (const start of [end.at - end.size, end.offset]) {
         const before = start - end.offset;
@@ -152,7 +152,7 @@ async function directoryOf(blob, end) {
             return { start, before, directory };
         }
     }
-    throw new ZipError("the zip is cut off: its directory is not where it says");
+    throw new ZipError("the zip is cut off: its directory is not where the zip says");
 }
 
 function isOfMacOs(name) {
@@ -229,9 +229,9 @@ class ZipFile {
             return "is encrypted";
         }
         if (method !== STORED && method !== DEFLATED) {
-            return `is compressed by ${METHODS.get(method) ?? `method ${method}`}, which this page does not read`;
+            return `is compressed by ${METHODS.get(method) ?? `method ${method}`}, which this page cannot read`;
         }
-        return size > MOST_UNPACKED ? `would unpack to ${Math.round(size / 2 ** 20)} MB, more than ${MOST_UNPACKED / 2 ** 20}` : "";
+        return size > MOST_UNPACKED ? `would unpack to ${Math.round(size / 2 ** 20)} MB, more than ${MOST_UNPACKED / 2 ** 20} MB` : "";
     }
 
     /** Unpacks the file. Throws an error that names the file if anything is wrong with it. */
@@ -263,7 +263,7 @@ class ZipFile {
         return this.#zip.slice(from, from + packed);
     }
 
-    /** Reads a stream to its end, and checks its length and its CRC. Reading stops as soon as the stream is too long. */
+    /** Reads a stream to its end, and checks its length and its CRC. Stops as soon as the stream is too long. */
     async #checked(stream, keep) {
         const { size, crc } = this.#entry;
         const reader = stream.getReader();
@@ -278,7 +278,7 @@ class ZipFile {
                 reader.cancel().catch(() => {});
                 throw new ZipError(`${this.name} is longer than the directory of the zip says`);
             }
-            found = crcOn(found, value);
+            found = updatedCrc(found, value);
             keep(value);
         }
         if (length < size) {

@@ -104,12 +104,12 @@ export class Browser {
 
     /** Chooses files, and returns the message of the page after they were opened. */
     async open(...files) {
-        await this.value("document.getElementById('told').textContent = ''");
+        await this.value("document.getElementById('message').textContent = ''");
         const { root } = await this.send("DOM.getDocument");
         const { nodeId } = await this.send("DOM.querySelector", { nodeId: root.nodeId, selector: "#file" });
         await this.send("DOM.setFileInputFiles", { nodeId, files: files.map((it) => resolve(this.#folder, it)) });
-        await this.until("document.getElementById('told').textContent !== ''");
-        return this.value("document.getElementById('told').textContent");
+        await this.until("document.getElementById('message').textContent !== ''");
+        return this.value("document.getElementById('message').textContent");
     }
 
     async press(key, code = key, text = "") {

@@ -164,10 +164,10 @@ async function tryLeadIns(browser, { disc }) {
     await browser.open("hello.raw");
     assert.equal(await browser.value(`${byId("lead-in")}.value`), "300");
     const set = async (leadIn) => {
-        await browser.value(`${byId("told")}.textContent = ""; ${byId("lead-in")}.value = "${leadIn}";
+        await browser.value(`${byId("message")}.textContent = ""; ${byId("lead-in")}.value = "${leadIn}";
             ${byId("lead-in")}.dispatchEvent(new Event("change"))`);
-        await browser.until(`${byId("told")}.textContent !== ""`);
-        return browser.value(`${byId("told")}.textContent`);
+        await browser.until(`${byId("message")}.textContent !== ""`);
+        return browser.value(`${byId("message")}.textContent`);
     };
     const stream = readFileSync(join(FOLDER, "hello.raw"));
     const bad = /^bad (\d+)$/m.exec(run(stream, "check", "--lead-in", "0").toString())[1];
@@ -242,7 +242,7 @@ async function trySound(browser, { packs }) {
     // A sound that cannot be played is reported, and the graphics play without it.
     put({ "long.wav": Buffer.alloc(5000, 7) });
     await browser.open("long.cdg", "long.wav");
-    await browser.until(`${byId("told")}.textContent.includes("cannot play the sound")`);
+    await browser.until(`${byId("message")}.textContent.includes("cannot play the sound")`);
     await browser.click("play");
     await browser.until("page.now > 0.2");
     await browser.click("play");
@@ -553,7 +553,7 @@ async function tryZips(browser, { packs }) {
     await browser.until("page.seconds === 5");
     await browser.value("document.querySelectorAll('#list button')[1].click()");
     await browser.until("page.seconds === 7");
-    assert.match(await browser.value(`${byId("told")}.textContent`), /^B\.cdg: .*sound: B\.wav/);
+    assert.match(await browser.value(`${byId("message")}.textContent`), /^B\.cdg: .*sound: B\.wav/);
     assert.equal(await browser.value("document.querySelector('#list [aria-current]').textContent"), "pairs.zip/B.cdg with B.wav");
     // Files that macOS adds are no songs.
     const mac = [{ name: "__MACOSX/._x.cdg", bytes: Buffer.alloc(300, 5) }, { name: "x.cdg", bytes: one }];
@@ -666,9 +666,9 @@ async function tryOpening(browser, { packs }) {
         page.open([file("one.cdg", 24000000)]);
         page.open([file("two.cdg", 2400)]);
     })()`);
-    await browser.until(`${byId("told")}.textContent.startsWith("two.cdg")`);
+    await browser.until(`${byId("message")}.textContent.startsWith("two.cdg")`);
     await wait(500);
-    assert.ok(await browser.value(`${byId("told")}.textContent.startsWith("two.cdg")`));
+    assert.ok(await browser.value(`${byId("message")}.textContent.startsWith("two.cdg")`));
     // Dropped files are listed, including those in folders.
     await browser.value(`(() => {
         const transfer = new DataTransfer();
@@ -677,7 +677,7 @@ async function tryOpening(browser, { packs }) {
         }
         dispatchEvent(new DragEvent("drop", { dataTransfer: transfer, cancelable: true }));
     })()`);
-    await browser.until(`${byId("told")}.textContent.startsWith("x.cdg")`);
+    await browser.until(`${byId("message")}.textContent.startsWith("x.cdg")`);
     assert.deepEqual(await browser.value("[...document.querySelectorAll('#list button')].map((it) => it.textContent)"), ["x.cdg", "y.cdg"]);
     return "files are opened during playback, twice, at once and together";
 }
@@ -709,7 +709,7 @@ async function tryBigDumps(browser, { whole }) {
     await watch(browser);
     await browser.value(`${byId("save")}.click()`);
     const from = Date.now();
-    await browser.until(`${byId("told")}.textContent.includes("is saved")`, 120);
+    await browser.until(`${byId("message")}.textContent.includes("is saved")`, 120);
     const seconds = (Date.now() - from) / 1000;
     const shares = await browser.value("shares.size");
     const gap = await browser.value("stopWatching()");
@@ -725,7 +725,7 @@ async function tryBigDumps(browser, { whole }) {
     await browser.value(`${byId("save")}.click()`);
     assert.equal(await browser.value(`${byId("save")}.textContent`), "Cancel saving");
     await browser.value(`${byId("save")}.click()`);
-    await browser.until(`${byId("told")}.textContent.includes("big.cdg is not saved")`);
+    await browser.until(`${byId("message")}.textContent.includes("big.cdg is not saved")`);
     assert.equal(await browser.value(`${byId("save")}.textContent`), "Save as .cdg");
     await browser.open("first.cdg");
     return `dumps of ${Math.round(big.length / 1e6)} MB leave ${(sizes.at(-1) / 1e6).toFixed(1)} MB of memory; one is saved in ${seconds.toFixed(1)} s; ` +
