@@ -1,6 +1,6 @@
 // The types of ribjasper.mjs.
 
-/** The version of the library that this file belongs to. */
+/** The version of the library. */
 export const VERSION: string;
 export const WIDTH: 300;
 export const HEIGHT: 216;
@@ -13,33 +13,33 @@ export const BLOCKS_A_SECOND: 75;
 export const PACKS_A_SECOND: 300;
 export const MOST_LEAD_IN: 450000;
 export const MOST_READINGS: 254;
-/** Stands for an absolute time that a frame does not give. */
+/** The value of `absolute` if a frame has no absolute time. */
 export const NO_TIME: 0xffffffff;
 
-/** Bytes. Arrays of other numbers, strings and views of other kinds are refused by a TypeError. */
+/** Bytes. Strings, and arrays and views of other kinds, cause a TypeError. */
 export type Bytes = Uint8Array | Uint8ClampedArray | ArrayBuffer | SharedArrayBuffer;
 
 /**
- * How a stream stores its blocks: raw blocks of 96 bytes; blocks of four packs, R to W only; sectors of 2,352 bytes of audio
- * and a raw block; or blocks in the planar form, twelve bytes for each channel.
+ * The form of the blocks in a stream: raw blocks of 96 bytes; blocks of four packs, with R to W only; sectors, which are 2,352
+ * bytes of audio and a raw block; or planar blocks, with twelve bytes for each channel.
  */
 export type Form = "raw" | "packs" | "sectors" | "planar";
 
-/** The form of a stream, by default "raw", and how many lead-in blocks it begins with, 0 to 450,000. */
+/** The form of a stream (default: "raw"), and the number of lead-in blocks with which it begins, 0 to 450,000. */
 export interface StreamOptions {
     form?: Form;
     leadIn?: number;
 }
 
-/** What a player reads: raw blocks or blocks of packs, behind so many lead-in blocks. */
+/** The form of the blocks that a player reads, and the number of lead-in blocks. */
 export interface PlayerOptions {
     form?: "raw" | "packs";
     leadIn?: number;
 }
 
 /**
- * As the options of a stream; or a .cdg file. A seeker keeps at most so many marks, by default 128, of 65,088 bytes each. They
- * and a copy of the blocks or packs are in the module's memory.
+ * Like the options of a stream, but the form may also be a .cdg file. `marks` is the maximum number of marks (default: 128). The
+ * module's memory has the marks, of 65,088 bytes each, and a copy of the blocks or packs.
  */
 export interface SeekerOptions {
     form?: Form | "cdg";
@@ -47,15 +47,15 @@ export interface SeekerOptions {
     marks?: number;
 }
 
-/** Which pixels of a picture are not opaque. */
+/** The pixels of a picture that are not opaque. */
 export interface PictureOptions {
-    /** Each colour has the opacity 255 - (4 L + L / 16) of its level L, which discs set. */
+    /** Whether each colour gets the opacity 255 - (4 L + L / 16) for its level L, which the disc sets. */
     levels?: boolean;
-    /** The numbers of colours, 0 to 15, that are transparent. */
+    /** The numbers (0 to 15) of transparent colours. */
     clear?: readonly number[];
 }
 
-/** An `ImageData` of 300 by 216 pixels, or such an object. */
+/** An `ImageData` of 300 by 216 pixels, or a similar object. */
 export interface ImageLike {
     readonly data: Uint8ClampedArray | Uint8Array;
     readonly width?: number;
@@ -71,8 +71,8 @@ export interface Rectangle {
 }
 
 /**
- * What of the screen may have changed by so many blocks or packs: a rectangle, or null, and whether colours of the table or
- * their levels may have. With other colours or levels any pixel may look different.
+ * The possible changes of the screen by `count` blocks or packs: a rectangle or null, and whether colours of the table or their
+ * levels may have changed. If they have, any pixel may look different.
  */
 export interface Changed {
     count: number;
@@ -81,27 +81,27 @@ export interface Changed {
     levels: boolean;
 }
 
-/** How many packs are idle, how many others have valid parity, and how many have none. */
+/** The numbers of packs that are idle, have valid parity, or have invalid parity. */
 export interface Parity {
     idle: number;
     valid: number;
     invalid: number;
 }
 
-/** A pack as it was read: its 24 symbols, and how many were wrong and were corrected, or -1 if no codeword is near. */
+/** A pack: its 24 symbols, and the number of corrected symbols, or -1 if the pack cannot be corrected. */
 export interface ReadPack {
     symbols: Uint8Array;
     wrong: number;
 }
 
-/** The packs of a stream, its blocks behind the lead-in, and the words with no codeword near. */
+/** The packs of a stream, the number of its blocks after the lead-in, and the number of words that cannot be corrected. */
 export interface Converted {
     packs: Uint8Array;
     blocks: number;
     bad: number;
 }
 
-/** The next packs of a stream, how many of its blocks are done, of how many, and the bad words up to here. */
+/** The next packs of a stream, the number of finished blocks and of all blocks, and the number of bad words so far. */
 export interface ConvertedPart {
     packs: Uint8Array;
     done: number;
@@ -109,13 +109,13 @@ export interface ConvertedPart {
     bad: number;
 }
 
-/** A text pack of the lead-in: its eighteen bytes, and whether the last two are the check of the others. */
+/** A text pack of the lead-in: its eighteen bytes, and whether the last two are the CRC of the others. */
 export interface TextPack {
     bytes: Uint8Array;
     matches: boolean;
 }
 
-/** What a player counts since it began: blocks, words, and words with no codeword near. */
+/** The form and lead-in of a player, and the numbers of blocks, of words, and of words that cannot be corrected. */
 export interface Counts {
     form: "raw" | "packs";
     leadIn: number;
@@ -125,9 +125,10 @@ export interface Counts {
 }
 
 /**
- * Mended readings: the packs; for each word the number of the reading that gave its codeword, 254 if two agree, 255 if there
- * is none; the blocks of the program; how many words are of each reading, agreed, or of none; and how many idle packs of each
- * reading were dropped.
+ * Mended readings. `packs` are the packs. `sources` has for each word the number of the reading with its codeword, 254 if two
+ * readings agree, or 255 if there is no codeword. `blocks` is the number of blocks of the program. `ofReading`, `agreed` and
+ * `none` count the words of each reading, with agreeing readings, and without a codeword. `dropped` counts the idle packs of each
+ * reading that were dropped.
  */
 export interface MendedReadings {
     packs: Uint8Array;
@@ -139,7 +140,7 @@ export interface MendedReadings {
     dropped: number[];
 }
 
-/** Sixteen colours as 0xRGB, their levels (0 to 63), the number of the border's colour, the offsets across and down. */
+/** Sixteen colours as 0xRGB, their levels (0 to 63), the number of the border colour, and the horizontal and vertical offset. */
 export interface Shown {
     colours: number[];
     levels: number[];
@@ -148,12 +149,12 @@ export interface Shown {
     v: number;
 }
 
-/** What a pack may change. */
+/** The part of the screen that a pack may change. */
 export type Touched =
     | { kind: "tile"; row: number; column: number }
     | { kind: "nothing" | "all" | "border" | "colours" | "levels" };
 
-/** Words by their wrong symbols: none, one, two, or more than can be corrected. */
+/** The numbers of words with no, one or two wrong symbols, and of words that cannot be corrected. */
 export interface Words {
     clean: number;
     one: number;
@@ -161,7 +162,7 @@ export interface Words {
     bad: number;
 }
 
-/** A Q frame: its kind (0 to 7; 253 a stream of packs, 254 a field out of its range, 255 a wrong check), track, index. */
+/** A Q frame: its kind (0 to 7; 253: a stream of packs, 254: a field out of range, 255: a wrong CRC), track, index and time. */
 export interface Frame {
     kind: number;
     track: number;
@@ -169,23 +170,23 @@ export interface Frame {
     absolute: number;
 }
 
-/** The sums of all rows: what the command `check` prints. */
+/** The sums of all rows, which the command `check` prints. */
 export interface Sums extends Words {
     frames: number;
     badFrames: number;
 }
 
-/** Compiles the module. Without a source, ribjasper.wasm is read from beside ribjasper.mjs. */
+/** Compiles the module. Without a source, it reads ribjasper.wasm in the folder of ribjasper.mjs. */
 export function load(source?: BufferSource | WebAssembly.Module | Response | PromiseLike<BufferSource | WebAssembly.Module | Response>):
     Promise<Ribjasper>;
 
 /**
- * The module. A wrong argument throws an error whose message begins with the name of the argument: a TypeError if it is of
- * another type, a RangeError if its value or length is out of range. Nothing changes then.
+ * The module. A wrong argument causes an error and no change. The message begins with the name of the argument. The error is a
+ * TypeError if the type is wrong, or a RangeError if the value or length is out of range.
  */
 export class Ribjasper {
     constructor(instance: WebAssembly.Instance);
-    /** The bytes of the module's memory. */
+    /** The size of the module's memory in bytes. */
     readonly memoryBytes: number;
     player(options?: PlayerOptions): Player;
     seeker(stream: Bytes, options?: SeekerOptions): Seeker;
@@ -196,9 +197,9 @@ export class Ribjasper {
     mendReadings(readings: readonly Bytes[], options?: { leadIn?: number }): MendedReadings;
     textPacks(block: Bytes): TextPack[];
     fromPlanar(planar: Bytes): Uint8Array;
-    /** Counts the packs of a .cdg file by their parity. */
+    /** Counts the packs of a .cdg file with and without valid parity. */
     parity(packs: Bytes): Parity;
-    /** The packs with parity that is valid for their other symbols. */
+    /** Computes the parity of packs from their other symbols. */
     seal(packs: Bytes): Uint8Array;
     touches(pack: Bytes): Touched;
 }
@@ -209,38 +210,39 @@ export class Player {
     begin(options?: PlayerOptions): void;
     feed(block: Bytes): void;
     feedAll(stream: Bytes, form?: Form): number;
-    /** As `feedAll`, and says what of the screen may have changed. */
+    /** Reads blocks like `feedAll`, and returns the possible changes of the screen. */
     feedChanges(stream: Bytes, form?: Form): Changed;
     take(block: Bytes): ReadPack[];
     draw(pack: Bytes): void;
     drawAll(packs: Bytes): number;
-    /** As `drawAll`, and says what of the screen may have changed. */
+    /** Draws packs like `drawAll`, and returns the possible changes of the screen. */
     drawChanges(packs: Bytes): Changed;
     changes(pack: Bytes): boolean;
-    /** Four bytes a pixel, in an array of this player that stays valid: the next picture of this player overwrites it. */
+    /** The picture with four bytes per pixel, in an array of this player. The next picture of this player overwrites it. */
     picture(image?: undefined, options?: PictureOptions): Uint8Array;
     picture<I extends ImageLike>(image: I, options?: PictureOptions): I;
-    /** Writes the picture into the image, and gives the smallest rectangle of changed pixels, or null if none changed. */
+    /** Writes the picture into the image, and returns the smallest rectangle with all changed pixels, or null if there are none. */
     update(image: ImageLike, options?: PictureOptions): Rectangle | null;
     screen(): Uint8Array;
     shown(): Shown;
     counts(): Counts;
-    /** The file of a checkpoint, or null if the stream is not raw or too long. */
+    /** The checkpoint file, or null if the stream is not raw or is too long. */
     save(): Uint8Array | null;
-    /** Throws a RangeError that names the byte which shows that a file is no checkpoint. */
+    /** Restores a checkpoint. If the file is not a checkpoint, a RangeError names the first byte that is out of range. */
     load(file: Bytes): void;
     copyFrom(other: Player): void;
     copy(): Player;
     close(): void;
 }
 
-/** A player of a whole stream that goes to any block or pack of it. `Ribjasper.seeker` makes it, and `close` frees it. */
+/** A player of a whole stream that can seek to any block or pack. `Ribjasper.seeker` makes it, and `close` frees it. */
 export class Seeker {
     private constructor();
-    /** The player, to look at. */
+    /** The player, for reading only. */
     readonly player: Player;
-    /** How many blocks, or packs of a .cdg file, there are, and how many of them the player has read. */
+    /** The number of blocks, or of packs of a .cdg file. */
     readonly length: number;
+    /** The number of blocks or packs that the player has read. */
     readonly position: number;
     seek(position: number): void;
     close(): void;

@@ -1,31 +1,31 @@
-// The subcode of compact discs in a web page: a CD+G player, and the other calls of crates/ribjasper_web.
+// Plays and converts the subcode of Compact Discs in web pages: the calls of crates/ribjasper_web.
 //
-// The calls are proved Rattle, compiled to WebAssembly (ribjasper.wasm). This file checks arguments, keeps the module's
-// memory and copies bytes. The module's memory has 64-bit addresses: Chromium 133, Firefox 134 and Node 24 have them, Node 20
-// and 22 with --experimental-wasm-memory64. Only ribjasper.wasm is fetched, and only if `load` gets no source.
+// The calls are proved Rattle code, compiled to WebAssembly (ribjasper.wasm). This file checks arguments, manages the module's
+// memory and copies bytes. The module's memory has 64-bit addresses. Chromium 133, Firefox 134 and Node 24 support these; Node 20
+// and 22 need --experimental-wasm-memory64. Only ribjasper.wasm is fetched, and only if `load` gets no source.
 
-/** The version of the library that this file belongs to: `make web` writes it. */
+/** The version of the library. `make web` sets it. */
 export const VERSION = "";
 /** The screen, in pixels. */
 export const WIDTH = 300;
 export const HEIGHT = 216;
-/** Bytes of a block of the channels P to W, of a pack, of a sector with its block, and of a checkpoint's file. */
+/** The sizes in bytes of a block of the channels P to W, of a pack, of a sector with its block, and of a checkpoint file. */
 export const BLOCK_BYTES = 96;
 export const PACK_BYTES = 24;
 export const SECTOR_BYTES = 2448;
 export const FILE_BYTES = 65045;
-/** Bytes of a text pack of the lead-in. */
+/** The size in bytes of a text pack of the lead-in. */
 export const TEXT_PACK_BYTES = 18;
-/** Blocks and packs a second. */
+/** Blocks and packs per second. */
 export const BLOCKS_A_SECOND = 75;
 export const PACKS_A_SECOND = 300;
-/** The most blocks of a lead-in, and the most readings that are mended. */
+/** The maximum number of blocks of a lead-in, and of readings for `mendReadings`. */
 export const MOST_LEAD_IN = 450_000;
 export const MOST_READINGS = 254;
-/** Stands for an absolute time that a frame does not give. */
+/** The value of `absolute` if a frame has no absolute time. */
 export const NO_TIME = 0xffffffff;
 
-// The forms of a stream by the numbers of the calls. Planar blocks become raw ones first.
+// The numbers of the forms for the calls of the module. Planar blocks are converted to raw blocks first.
 const FORMS = new Map([["raw", 0], ["packs", 1], ["sectors", 2], ["planar", 0]]);
 const PLAYER_FORMS = new Map([["raw", 0], ["packs", 1]]);
 const PIXELS = WIDTH * HEIGHT;
@@ -37,28 +37,28 @@ const PACKS_A_BLOCK = BLOCK_BYTES / PACK_BYTES;
 // Three numbers and two lists of numbers, of four bytes each.
 const TALLY_BYTES = 4 * (3 + 2 * MOST_READINGS);
 const PAGE_BYTES = 65536;
-// A chunk of a stream is copied into the module's memory at a time: whole blocks and whole sectors.
+// Streams are copied into the module's memory in chunks of this size: whole blocks and whole sectors.
 const CHUNK_BYTES = 384 * SECTOR_BYTES;
 const BLOCKS_AT_ONCE = CHUNK_BYTES / SECTOR_BYTES;
 const BLOCKS_A_CHUNK = CHUNK_BYTES / BLOCK_BYTES;
 // A word has symbols in its last block and the two blocks before it.
 const BLOCKS_BEFORE = 2;
 const COLOURS = 16;
-// A place and a player. A mark of zeros is not set.
+// A mark is a position and a player. A mark of zeros is not set.
 const MARK_BYTES = 8 + PLAYER_BYTES;
-// The answer of `touches` for a pack that touches no tile, from 900 on.
+// The answers of `touches` for packs that touch no single tile, from FIRST_TOUCHED on.
 const TOUCHED = ["nothing", "all", "border", "colours", "levels"];
 const FIRST_TOUCHED = 900;
 const TILES_A_ROW = 50;
 
 /**
  * Compiles the module.
- * @param {BufferSource | WebAssembly.Module | Response | PromiseLike<Response>} [source] ribjasper.wasm; if it is missing,
- *     the file beside this one is read
+ * @param {BufferSource | WebAssembly.Module | Response | PromiseLike<Response>} [source] ribjasper.wasm; without it,
+ *     the file next to this one is read
  */
 export async function load(source) {
     const given = await source;
-    const bytes = given === undefined ? await bytesBeside() : await bytesOfSource(given);
+    const bytes = given === undefined ? await bytesOfNeighbour() : await bytesOfSource(given);
     const module = bytes instanceof WebAssembly.Module ? bytes : await WebAssembly.compile(bytes);
     return new Ribjasper(await WebAssembly.instantiate(module, {}));
 }
@@ -68,34 +68,35 @@ async function bytesOfSource(source) {
         return source;
     }
     if (typeof Response !== "undefined" && source instanceof Response) {
-        return bytesOfAnswer(source, source.url);
+        return bytesOfResponse(source, source.url);
     }
-    throw new TypeError(`source: the bytes of ribjasper.wasm, a WebAssembly.Module or a Response is wanted, not ${kindOf(source)}`);
+    throw new TypeError(`source: expected the bytes of ribjasper.wasm, a WebAssembly.Module or a Response, got ${kindOf(source)}`);
 }
 
-async function bytesBeside() {
+/** The bytes of ribjasper.wasm in the folder of this file. */
+async function bytesOfNeighbour() {
     const place = new URL("./ribjasper.wasm", import.meta.url);
     if (place.protocol === "file:" && typeof process !== "undefined") {
-        // A variable, since bundlers look for a module that is named by a literal.
+        // Not a literal, because bundlers would search for the module.
         const files = "node:fs/promises";
         const { readFile } = await import(/* webpackIgnore: true */ /* @vite-ignore */ files);
         return readFile(place);
     }
-    return bytesOfAnswer(await fetch(place), place);
+    return bytesOfResponse(await fetch(place), place);
 }
 
-async function bytesOfAnswer(answer, place) {
-    if (!answer.ok) {
-        throw new Error(`${place} cannot be read: status ${answer.status}`);
+async function bytesOfResponse(response, place) {
+    if (!response.ok) {
+        throw new Error(`${place} cannot be read: status ${response.status}`);
     }
-    return answer.arrayBuffer();
+    return response.arrayBuffer();
 }
 
-/** The memory of the module. Buffers are runs of whole pages; a freed buffer is used again, in part if it is larger. */
-class Room {
+/** The memory of the module. Buffers are whole pages; freed buffers are used again, as a whole or in part. */
+class ModuleMemory {
     #memory;
     #calls;
-    // In the order of their addresses. No two of them touch.
+    // The free buffers in the order of their addresses. No two of them are adjacent.
     #free = [];
     #end;
     #bytes;
@@ -106,7 +107,7 @@ class Room {
         this.#end = this.#memory.buffer.byteLength;
     }
 
-    /** All bytes. Growing the memory detaches the array, so it is requested each time. */
+    /** All bytes. Get them for each use, because growing the memory detaches the array. */
     get bytes() {
         if (this.#bytes === undefined || this.#bytes.byteLength !== this.#memory.buffer.byteLength) {
             this.#bytes = new Uint8Array(this.#memory.buffer);
@@ -114,8 +115,8 @@ class Room {
         return this.#bytes;
     }
 
-    /** Allocates the smallest free buffer that is large enough, or grows the memory. It may contain bytes of its last user. */
-    take(size) {
+    /** Allocates the smallest free buffer that is large enough, or grows the memory. The buffer may contain old bytes. */
+    allocate(size) {
         const pages = Math.max(1, Math.ceil(size / PAGE_BYTES));
         let best = -1;
         this.#free.forEach((it, k) => {
@@ -127,13 +128,13 @@ class Room {
             return this.#grown(pages);
         }
         const found = this.#free[best];
-        const room = { at: found.at, pages };
+        const buffer = { at: found.at, pages };
         if (found.pages === pages) {
             this.#free.splice(best, 1);
         } else {
             this.#free[best] = { at: found.at + pages * PAGE_BYTES, pages: found.pages - pages };
         }
-        return room;
+        return buffer;
     }
 
     #grown(pages) {
@@ -145,7 +146,7 @@ class Room {
         try {
             this.#memory.grow(BigInt(more));
         } catch (error) {
-            // Engines before 2024, and memories with 32-bit addresses, take a number.
+            // Engines before 2024 need a number, and so do memories with 32-bit addresses.
             if (!(error instanceof TypeError)) {
                 throw error;
             }
@@ -159,9 +160,9 @@ class Room {
     }
 
     /** Frees a buffer, and joins it with its free neighbours. */
-    give(room) {
-        const behind = this.#free.findIndex((it) => it.at > room.at);
-        this.#free.splice(behind < 0 ? this.#free.length : behind, 0, room);
+    free(buffer) {
+        const next = this.#free.findIndex((it) => it.at > buffer.at);
+        this.#free.splice(next < 0 ? this.#free.length : next, 0, buffer);
         this.#free = this.#free.reduce((joined, it) => {
             const before = joined.at(-1);
             if (before !== undefined && before.at + before.pages * PAGE_BYTES === it.at) {
@@ -197,7 +198,7 @@ class Room {
         return new Uint32Array(this.#memory.buffer, at, count);
     }
 
-    /** Turns planar blocks at one place into raw ones at another. */
+    /** Converts planar blocks at one place to raw blocks at another. */
     fromPlanar(from, to, blocks) {
         if (this.has("blocks_from_planar")) {
             this.call("blocks_from_planar", BigInt(from), BigInt(blocks), BigInt(to), BigInt(blocks));
@@ -209,55 +210,56 @@ class Room {
     }
 }
 
-// Shared by the classes below: the packs of units, and calls that read a stream in the module's memory.
-let packsTaken;
-let callOn;
+// Functions of Player that other classes use: they read units and write their packs, and call the module with the player.
+let takePacks;
+let callWithPlayer;
 
-/** The module, ready to be called. `load` makes one. */
+/** The module. `load` makes an instance. */
 export class Ribjasper {
-    #room;
+    #memory;
     #shared;
 
     constructor(instance) {
         const { exports } = instance ?? {};
         if (!(exports?.memory instanceof WebAssembly.Memory)) {
-            throw new TypeError(`instance: an instance of ribjasper.wasm is wanted, not ${kindOf(instance)}`);
+            throw new TypeError(`instance: expected an instance of ribjasper.wasm, got ${kindOf(instance)}`);
         }
-        this.#room = new Room(exports);
+        this.#memory = new ModuleMemory(exports);
         this.#shared = {
-            room: this.#room,
+            memory: this.#memory,
             // A buffer for a picture, the file of a checkpoint, or a few blocks.
-            work: this.#room.take(8 * PAGE_BYTES).at,
-            chunk: this.#room.take(CHUNK_BYTES).at,
-            turned: this.#room.take(CHUNK_BYTES).at,
+            work: this.#memory.allocate(8 * PAGE_BYTES).at,
+            chunk: this.#memory.allocate(CHUNK_BYTES).at,
+            converted: this.#memory.allocate(CHUNK_BYTES).at,
         };
     }
 
     /** The size of the module's memory in bytes. It never shrinks; memory of closed objects is used again. */
     get memoryBytes() {
-        return this.#room.bytes.length;
+        return this.#memory.bytes.length;
     }
 
-    /** A player of a raw stream, or of blocks of four packs (`form: "packs"`), behind so many lead-in blocks. */
+    /** A player of a raw stream or of blocks of four packs (`form: "packs"`), with `leadIn` lead-in blocks. */
     player(options = {}) {
         return new Player(this.#shared, options);
     }
 
-    /** A player of a whole stream or .cdg file (`form: "cdg"`) that goes to any block or pack. */
+    /** A player of a whole stream or .cdg file (`form: "cdg"`) that can seek to any block or pack. */
     seeker(stream, options = {}) {
         return new Seeker(this.#shared, stream, options);
     }
 
     /**
-     * The packs of a whole stream as those of a .cdg file, damage corrected; zeros stand for a pack with no codeword near.
-     * They are the output of the command `convert`, and `bad` is the number of words with no codeword near.
+     * Converts a whole stream to the packs of a .cdg file, with error correction. A word that cannot be corrected becomes a pack
+     * of zeros; `bad` is the number of these words. The packs are the output of the command `convert`.
      */
     convert(stream, options = {}) {
         const bytes = wholeUnits(stream, options);
         const { leadIn, unit } = streamOptions(options);
         const blocks = Math.max(0, bytes.length / unit - leadIn);
-        const held = options.form === "packs" ? 0 : 7;
-        const packs = new Uint8Array(PACK_BYTES * Math.max(0, PACKS_A_BLOCK * blocks - held));
+        // The last seven words of a raw stream are incomplete.
+        const incomplete = options.form === "packs" ? 0 : 7;
+        const packs = new Uint8Array(PACK_BYTES * Math.max(0, PACKS_A_BLOCK * blocks - incomplete));
         let [at, bad] = [0, 0];
         for (const part of this.converting(bytes, options)) {
             packs.set(part.packs, at);
@@ -268,13 +270,13 @@ export class Ribjasper {
     }
 
     /**
-     * As `convert`, in parts: each has the next packs, how many blocks of the stream are done, and the bad words up to here.
-     * A page that lets the browser breathe between parts does not freeze.
+     * Converts like `convert`, but in parts. Each part has the next packs, the number of finished blocks, and the number of bad
+     * words so far. A page does not freeze if it returns to the browser between parts.
      */
     *converting(stream, options = {}) {
         const bytes = wholeUnits(stream, options);
         const { form, leadIn, unit } = streamOptions(options);
-        const at = this.#room.take(READ_PACK_BYTES * PACKS_A_BLOCK * BLOCKS_AT_ONCE);
+        const at = this.#memory.allocate(READ_PACK_BYTES * PACKS_A_BLOCK * BLOCKS_AT_ONCE);
         const player = this.player({ form: form === "packs" ? "packs" : "raw", leadIn });
         const all = bytes.length / unit;
         let [done, bad] = [0, 0];
@@ -282,18 +284,18 @@ export class Ribjasper {
             while (done < all) {
                 const count = Math.min(BLOCKS_AT_ONCE, all - done);
                 const units = bytes.subarray(unit * done, unit * (done + count));
-                const part = readPacks(this.#room, packsTaken(player, units, form, at.at), at.at);
+                const part = readPacks(this.#memory, takePacks(player, units, form, at.at), at.at);
                 done += count;
                 bad += part.bad;
                 yield { packs: part.packs, done, of: all, bad };
             }
         } finally {
             player.close();
-            this.#room.give(at);
+            this.#memory.free(at);
         }
     }
 
-    /** A row for each whole block of a stream: its words and its Q frame. The sums are those of the command `check`. */
+    /** Surveys each whole block of a stream: its words and its Q frame. The sums are those of the command `check`. */
     survey(stream, options = {}) {
         const bytes = bytesOf("stream", stream);
         const { form, leadIn, unit } = streamOptions(options);
@@ -301,7 +303,7 @@ export class Ribjasper {
         return new Survey(this.#rows(form === "planar" ? this.fromPlanar(bytes) : bytes, form, leadIn, blocks));
     }
 
-    /** As `survey`, in parts: gives the number of blocks that are done after each, and returns the survey. */
+    /** Surveys like `survey`, but in parts. Yields the number of finished blocks after each part, and returns the survey. */
     *surveying(stream, options = {}) {
         const bytes = bytesOf("stream", stream);
         const { form, leadIn, unit } = streamOptions(options);
@@ -322,59 +324,60 @@ export class Ribjasper {
     #rows(bytes, form, leadIn, blocks) {
         // Rows begin at an address that is a multiple of four.
         const before = 4 * Math.ceil(bytes.length / 4);
-        const room = this.#room.take(before + ROW_BYTES * blocks);
+        const buffer = this.#memory.allocate(before + ROW_BYTES * blocks);
         try {
-            const rows = room.at + before;
-            const answer = this.#room.call("survey", this.#room.put(room.at, bytes), BigInt(bytes.length),
+            const rows = buffer.at + before;
+            const answer = this.#memory.call("survey", this.#memory.put(buffer.at, bytes), BigInt(bytes.length),
                 FORMS.get(form), leadIn, BigInt(rows), BigInt(blocks));
             if (answer !== 0) {
                 throw new Error(`the module refuses a survey: ${answer}`);
             }
-            return this.#room.bytes.slice(rows, rows + ROW_BYTES * blocks);
+            return this.#memory.bytes.slice(rows, rows + ROW_BYTES * blocks);
         } finally {
-            this.#room.give(room);
+            this.#memory.free(buffer);
         }
     }
 
     /**
-     * Mends readings of one raw stream: each word is the best of them, by the rule in include/ribjasper.h. There are 1 to 254
-     * readings, each of as many whole blocks. `packs` are those of a .cdg file, with zeros for a word without a codeword;
-     * `sources` names for each word the reading that gave the codeword, 254 if two readings agree, 255 if there is none.
+     * Mends readings of one raw stream: chooses the best reading of each word, by the rule in include/ribjasper.h. There must be
+     * 1 to 254 readings with the same number of whole blocks. `packs` are the packs of a .cdg file, with zeros for words without a
+     * codeword. `sources` has for each word the number of the reading with its codeword, 254 if two readings agree, or 255 if there
+     * is no codeword.
      */
     mendReadings(readings, options = {}) {
         if (!Array.isArray(readings)) {
-            throw new TypeError(`readings: an array of Uint8Arrays is wanted, not ${kindOf(readings)}`);
+            throw new TypeError(`readings: expected an array of Uint8Arrays, got ${kindOf(readings)}`);
         }
         if (readings.length < 1 || readings.length > MOST_READINGS) {
-            throw new RangeError(`readings: 1 to 254 are wanted, not ${readings.length}`);
+            throw new RangeError(`readings: expected 1 to 254, got ${readings.length}`);
         }
         const leadIn = leadInOf(optionsOf(options));
         const lists = readings.map((it, k) => bytesOf(`readings[${k}]`, it));
         const size = lists[0].length;
         const other = lists.findIndex((it) => it.length !== size);
         if (other >= 0) {
-            throw new RangeError(`readings[${other}]: readings of one stream are equally long, ${size} bytes and not ${lists[other].length}`);
+            throw new RangeError(`readings[${other}]: readings must be equally long, expected ${size} bytes, got ${lists[other].length}`);
         }
         const blocks = Math.max(0, Math.floor(size / BLOCK_BYTES) - leadIn);
         const words = Math.max(0, 4 * blocks - 7);
         // The tallies begin at an address that is a multiple of four.
         const bytes = size * lists.length;
-        const room = this.#room.take(TALLY_BYTES + bytes + PACK_BYTES * words + words);
+        const buffer = this.#memory.allocate(TALLY_BYTES + bytes + PACK_BYTES * words + words);
         try {
-            const first = room.at + TALLY_BYTES;
-            lists.forEach((reading, k) => this.#room.put(first + size * k, reading));
+            const first = buffer.at + TALLY_BYTES;
+            lists.forEach((reading, k) => this.#memory.put(first + size * k, reading));
             const packs = first + bytes;
             const sources = packs + PACK_BYTES * words;
-            const answer = this.#room.call("mend", BigInt(first), BigInt(bytes), lists.length, leadIn, BigInt(packs),
-                BigInt(PACK_BYTES * words), BigInt(sources), BigInt(words), BigInt(room.at));
+            const answer = this.#memory.call("mend", BigInt(first), BigInt(bytes), lists.length, leadIn, BigInt(packs),
+                BigInt(PACK_BYTES * words), BigInt(sources), BigInt(words), BigInt(buffer.at));
             if (answer !== 0) {
-                throw new RangeError(`readings: each has whole blocks, at most 1,000,000, not ${size} bytes`);
+                throw new RangeError(`readings: each must have whole blocks, at most 1,000,000, but has ${size} bytes`);
             }
-            const numbers = this.#room.numbers(room.at);
+            const numbers = this.#memory.numbers(buffer.at);
             const list = (from) => lists.map((_, k) => numbers.getUint32(4 * (from + k), true));
             return {
-                packs: this.#room.bytes.slice(packs, sources),
-                sources: this.#room.bytes.slice(sources, sources + words),
+                packs: this.#memory.bytes.slice(packs, sources),
+                sources: this.#memory.bytes.slice(sources, sources + words),
                 blocks,
                 agreed: numbers.getUint32(0, true),
                 none: numbers.getUint32(4, true),
@@ -382,101 +385,101 @@ export class Ribjasper {
                 dropped: list(3 + MOST_READINGS),
             };
         } finally {
-            this.#room.give(room);
+            this.#memory.free(buffer);
         }
     }
 
     /**
-     * The four text packs of a lead-in block, eighteen bytes each, and whether the check of each is right: those are CD-TEXT.
-     * The module has no heap, so it does not read the texts of a whole lead-in: the command `text`, the library for programs
-     * in C and the desks do.
+     * The four text packs of a lead-in block, eighteen bytes each, and whether the CRC of each is correct; if so, the pack is
+     * CD-TEXT. The module has no heap, so it cannot read the texts of a whole lead-in. The command `text`, the C library and the
+     * desk can.
      */
     textPacks(block) {
-        const at = this.#room.put(this.#shared.work, exactly("block", block, BLOCK_BYTES));
+        const at = this.#memory.put(this.#shared.work, exactly("block", block, BLOCK_BYTES));
         const to = this.#shared.work + BLOCK_BYTES;
         return Array.from({ length: PACKS_A_BLOCK }, (_, k) => {
-            const matches = this.#room.call("text_pack", at, k, BigInt(to)) === 1;
-            return { bytes: this.#room.bytes.slice(to, to + TEXT_PACK_BYTES), matches };
+            const matches = this.#memory.call("text_pack", at, k, BigInt(to)) === 1;
+            return { bytes: this.#memory.bytes.slice(to, to + TEXT_PACK_BYTES), matches };
         });
     }
 
-    /** The whole blocks of a planar stream (.sub files of some drives), as raw blocks. */
+    /** Converts the whole blocks of a planar stream (.sub files of some drives) to raw blocks. */
     fromPlanar(planar) {
         const bytes = bytesOf("planar", planar);
         const blocks = new Uint8Array(bytes.length - (bytes.length % BLOCK_BYTES));
         for (let from = 0; from < blocks.length; from += CHUNK_BYTES) {
             const count = Math.min(CHUNK_BYTES, blocks.length - from) / BLOCK_BYTES;
-            blocks.set(turned(this.#shared, bytes.subarray(from, from + BLOCK_BYTES * count)), from);
+            blocks.set(rawFromPlanar(this.#shared, bytes.subarray(from, from + BLOCK_BYTES * count)), from);
         }
         return blocks;
     }
 
     /**
-     * How many packs are idle, how many others have valid parity, and how many have none: the packs of a .cdg file without
-     * parity are idle or invalid. A player of the form "packs" draws no invalid pack; `draw` and `drawAll` ignore parity.
+     * Counts the packs that are idle, those with valid parity, and those with invalid parity. In a .cdg file without parity, all
+     * packs are idle or invalid. A player of the form "packs" draws no invalid packs; `draw` and `drawAll` ignore parity.
      */
     parity(packs) {
         const bytes = wholePacks(packs);
         const counts = { idle: 0, valid: 0, invalid: 0 };
         for (let from = 0; from < bytes.length; from += CHUNK_BYTES) {
             const piece = bytes.subarray(from, from + CHUNK_BYTES);
-            const at = this.#room.put(this.#shared.chunk, piece);
-            this.#room.call("packs_parity", at, BigInt(piece.length / PACK_BYTES), BigInt(this.#shared.work));
-            const numbers = this.#room.numbers(this.#shared.work);
+            const at = this.#memory.put(this.#shared.chunk, piece);
+            this.#memory.call("packs_parity", at, BigInt(piece.length / PACK_BYTES), BigInt(this.#shared.work));
+            const numbers = this.#memory.numbers(this.#shared.work);
             Object.keys(counts).forEach((name, k) => { counts[name] += Number(numbers.getBigUint64(8 * k, true)); });
         }
         return counts;
     }
 
     /**
-     * The packs with their parity: each becomes the codeword with its symbols 0, 1 and 4 to 19. Do not seal packs that have
-     * parity and may be damaged: a wrong symbol then counts as a right one.
+     * Computes the parity of packs: each pack becomes the codeword with its symbols 0, 1 and 4 to 19. Do not seal packs that
+     * already have parity and may be damaged, because their wrong symbols would become valid.
      */
     seal(packs) {
         const bytes = wholePacks(packs);
         const sealed = new Uint8Array(bytes.length);
         for (let from = 0; from < bytes.length; from += CHUNK_BYTES) {
             const piece = bytes.subarray(from, from + CHUNK_BYTES);
-            const at = this.#room.put(this.#shared.chunk, piece);
-            this.#room.call("packs_seal", at, BigInt(piece.length / PACK_BYTES));
-            sealed.set(this.#room.bytes.subarray(Number(at), Number(at) + piece.length), from);
+            const at = this.#memory.put(this.#shared.chunk, piece);
+            this.#memory.call("packs_seal", at, BigInt(piece.length / PACK_BYTES));
+            sealed.set(this.#memory.bytes.subarray(Number(at), Number(at) + piece.length), from);
         }
         return sealed;
     }
 
-    /** What the instruction of a pack may change: `{ kind: "tile", row, column }`, or a kind without a place. */
+    /** The part of the screen that a pack may change: `{ kind: "tile", row, column }`, or another kind without a place. */
     touches(pack) {
-        const number = this.#room.call("touches", this.#room.put(this.#shared.work, exactly("pack", pack, PACK_BYTES)));
+        const number = this.#memory.call("touches", this.#memory.put(this.#shared.work, exactly("pack", pack, PACK_BYTES)));
         return number < FIRST_TOUCHED
             ? { kind: "tile", row: Math.floor(number / TILES_A_ROW), column: number % TILES_A_ROW }
             : { kind: TOUCHED[number - FIRST_TOUCHED] };
     }
 }
 
-/** A player: it reads blocks, or draws packs, and shows the picture after them. */
+/** A player reads blocks or draws packs, and shows the picture after them. */
 export class Player {
     #shared;
-    #room;
+    #memory;
     #work;
     #place;
     #picture;
 
     static {
-        packsTaken = (player, units, form, to) => player.#takeAll(units, form, to);
-        callOn = (player, name, ...values) => player.#room.call(name, player.#at, ...values);
+        takePacks = (player, units, form, to) => player.#takeAll(units, form, to);
+        callWithPlayer = (player, name, ...values) => player.#memory.call(name, player.#at, ...values);
     }
 
     constructor(shared, options) {
-        if (!(shared?.room instanceof Room)) {
+        if (!(shared?.memory instanceof ModuleMemory)) {
             throw new TypeError("a Player is made by Ribjasper.player()");
         }
         const begin = playerOptions(options);
         this.#shared = shared;
-        this.#room = shared.room;
+        this.#memory = shared.memory;
         this.#work = shared.work;
-        this.#place = this.#room.take(PLAYER_BYTES);
-        // A player of all zeros is valid; bytes of the last user may not be.
-        this.#room.bytes.fill(0, this.#place.at, this.#place.at + PLAYER_BYTES);
+        this.#place = this.#memory.allocate(PLAYER_BYTES);
+        // A player of zeros is valid; old bytes may not be.
+        this.#memory.bytes.fill(0, this.#place.at, this.#place.at + PLAYER_BYTES);
         this.#begin(begin);
     }
 
@@ -488,22 +491,22 @@ export class Player {
     }
 
     #begin({ form, leadIn }) {
-        this.#room.call("begin", this.#at, PLAYER_FORMS.get(form), leadIn);
+        this.#memory.call("begin", this.#at, PLAYER_FORMS.get(form), leadIn);
     }
 
-    /** Forgets all blocks and packs. */
+    /** Begins a new stream. */
     begin(options = {}) {
         this.#begin(playerOptions(options));
     }
 
     /** Reads the next block. */
     feed(block) {
-        this.#room.call("feed", this.#at, this.#room.put(this.#work, exactly("block", block, BLOCK_BYTES)));
+        this.#memory.call("feed", this.#at, this.#memory.put(this.#work, exactly("block", block, BLOCK_BYTES)));
     }
 
     /**
-     * Reads all whole blocks of a piece of the stream, and says how many they are. `form` is how the piece stores blocks: raw,
-     * packs, sectors or planar. Bytes behind the last whole block are ignored.
+     * Reads all whole blocks of a piece of the stream, and returns their number. `form` is the form of the piece: raw, packs,
+     * sectors or planar. Bytes after the last whole block are ignored.
      */
     feedAll(stream, form = "raw") {
         const bytes = bytesOf("stream", stream);
@@ -515,20 +518,20 @@ export class Player {
             const piece = bytes.subarray(from, Math.min(whole, from + CHUNK_BYTES));
             const place = BigInt(this.#put(piece, form));
             if (form === "sectors") {
-                fed += Number(this.#room.call("feed_all", at, FORMS.get(form), place, BigInt(piece.length)));
+                fed += Number(this.#memory.call("feed_all", at, FORMS.get(form), place, BigInt(piece.length)));
                 continue;
             }
-            // The same, and faster; the reported change is not used.
-            this.#room.call("feed_changes", at, place, BigInt(piece.length / BLOCK_BYTES), BigInt(this.#work));
+            // This is faster than feed_all. The reported change is not used.
+            this.#memory.call("feed_changes", at, place, BigInt(piece.length / BLOCK_BYTES), BigInt(this.#work));
             fed += piece.length / BLOCK_BYTES;
         }
         return fed;
     }
 
     /**
-     * Reads blocks as `feedAll` does, and says what of the screen may have changed since: the smallest rectangle around the
-     * tiles that were drawn, or null, and whether colours or their levels may have. With other colours or levels any pixel
-     * may look different. Nothing else changed.
+     * Reads blocks like `feedAll`, and returns the possible changes of the screen: the smallest rectangle around the drawn tiles,
+     * or null, and whether colours or their levels may have changed. If they have, any pixel may look different. Nothing else
+     * has changed.
      */
     feedChanges(stream, form = "raw") {
         const bytes = bytesOf("stream", stream);
@@ -536,7 +539,7 @@ export class Player {
         return this.#changesOf("feed_changes", bytes, form, unit);
     }
 
-    /** Draws packs as `drawAll` does, and says what of the screen may have changed, as `feedChanges` does. */
+    /** Draws packs like `drawAll`, and returns the possible changes of the screen like `feedChanges`. */
     drawChanges(packs) {
         return this.#changesOf("draw_all", bytesOf("packs", packs), "cdg", PACK_BYTES);
     }
@@ -548,17 +551,17 @@ export class Player {
         const changed = { count: all, rectangle: null, colours: false, levels: false };
         for (let done = 0; done < all; done += most) {
             const count = Math.min(most, all - done);
-            const place = this.#shared.turned;
+            const place = this.#shared.converted;
             putUnits(this.#shared, bytes.subarray(unit * done, unit * (done + count)), form, count, place);
-            this.#room.call(name, at, BigInt(place), BigInt(count), BigInt(this.#work));
+            this.#memory.call(name, at, BigInt(place), BigInt(count), BigInt(this.#work));
             this.#addChange(changed);
         }
         return changed;
     }
 
-    /** Adds the change that the module wrote. */
+    /** Adds the change that the module has written to its memory. */
     #addChange(changed) {
-        const numbers = this.#room.numbers(this.#work);
+        const numbers = this.#memory.numbers(this.#work);
         const [left, top, right, bottom] = [0, 4, 8, 12].map((at) => numbers.getUint32(at, true));
         if (left < WIDTH) {
             changed.rectangle = around(changed.rectangle, { x: left, y: top, width: right - left, height: bottom - top });
@@ -567,26 +570,26 @@ export class Player {
         changed.levels ||= numbers.getUint8(17) !== 0;
     }
 
-    /** Copies a chunk into the module's memory, planar blocks as raw ones, and gives its place. */
+    /** Copies a chunk to the module's memory, converts planar blocks to raw ones, and returns the place. */
     #put(piece, form) {
-        this.#room.put(this.#shared.chunk, piece);
+        this.#memory.put(this.#shared.chunk, piece);
         if (form !== "planar") {
             return this.#shared.chunk;
         }
-        this.#room.fromPlanar(this.#shared.chunk, this.#shared.turned, piece.length / BLOCK_BYTES);
-        return this.#shared.turned;
+        this.#memory.fromPlanar(this.#shared.chunk, this.#shared.converted, piece.length / BLOCK_BYTES);
+        return this.#shared.converted;
     }
 
-    /** Reads the next block, and gives its packs, at most four; `wrong` is -1 for a word with no codeword near. */
+    /** Reads the next block, and returns its packs, at most four. `wrong` is -1 for a word that cannot be corrected. */
     take(block) {
         const packs = this.#work + BLOCK_BYTES;
-        const count = this.#room.call("take", this.#at, this.#room.put(this.#work, exactly("block", block, BLOCK_BYTES)),
+        const count = this.#memory.call("take", this.#at, this.#memory.put(this.#work, exactly("block", block, BLOCK_BYTES)),
             BigInt(packs));
         return Array.from({ length: count }, (_, k) => {
             const at = packs + READ_PACK_BYTES * k;
             return {
-                symbols: this.#room.bytes.slice(at, at + PACK_BYTES),
-                wrong: this.#room.numbers(at + PACK_BYTES).getInt32(0, true),
+                symbols: this.#memory.bytes.slice(at, at + PACK_BYTES),
+                wrong: this.#memory.numbers(at + PACK_BYTES).getInt32(0, true),
             };
         });
     }
@@ -597,47 +600,47 @@ export class Player {
         const [at, chunk] = [this.#at, this.#put(units, form) + unit - BLOCK_BYTES];
         let packs = 0;
         for (let from = 0; from < units.length; from += unit) {
-            packs += this.#room.call("take", at, BigInt(chunk + from), BigInt(to + READ_PACK_BYTES * packs));
+            packs += this.#memory.call("take", at, BigInt(chunk + from), BigInt(to + READ_PACK_BYTES * packs));
         }
         return packs;
     }
 
     /** Draws a pack of a .cdg file. Its parity is ignored. */
     draw(pack) {
-        this.#room.call("draw", this.#at, this.#room.put(this.#work, exactly("pack", pack, PACK_BYTES)));
+        this.#memory.call("draw", this.#at, this.#memory.put(this.#work, exactly("pack", pack, PACK_BYTES)));
     }
 
-    /** Draws all whole packs of a piece of a .cdg file, and says how many they are. */
+    /** Draws all whole packs of a piece of a .cdg file, and returns their number. */
     drawAll(packs) {
         const bytes = bytesOf("packs", packs);
         const whole = bytes.length - (bytes.length % PACK_BYTES);
         const at = this.#at;
-        const inOne = this.#room.has("draw_all");
+        const hasDrawAll = this.#memory.has("draw_all");
         for (let from = 0; from < whole; from += CHUNK_BYTES) {
             const piece = bytes.subarray(from, Math.min(whole, from + CHUNK_BYTES));
-            const chunk = this.#room.put(this.#shared.chunk, piece);
-            if (inOne) {
-                this.#room.call("draw_all", at, chunk, BigInt(piece.length / PACK_BYTES), BigInt(this.#work));
+            const chunk = this.#memory.put(this.#shared.chunk, piece);
+            if (hasDrawAll) {
+                this.#memory.call("draw_all", at, chunk, BigInt(piece.length / PACK_BYTES), BigInt(this.#work));
                 continue;
             }
             for (let pack = 0; pack < piece.length; pack += PACK_BYTES) {
-                this.#room.call("draw", at, chunk + BigInt(pack));
+                this.#memory.call("draw", at, chunk + BigInt(pack));
             }
         }
         return whole / PACK_BYTES;
     }
 
-    /** Whether a pack would change anything: a pixel of the memory, the border, a colour, a level or an offset. */
+    /** Whether a pack would change a pixel of the memory, the border, a colour, a level or an offset. */
     changes(pack) {
-        const at = this.#room.put(this.#work, exactly("pack", pack, PACK_BYTES));
-        return this.#room.call("changes", this.#at, at) !== 0;
+        const at = this.#memory.put(this.#work, exactly("pack", pack, PACK_BYTES));
+        return this.#memory.call("changes", this.#at, at) !== 0;
     }
 
     /**
-     * The picture, four bytes a pixel: red, green, blue and opacity. It is written into `image`, an `ImageData` of 300 by 216
-     * pixels. Without `image` it is written into an array of this player, which stays valid; the next picture overwrites it.
-     * All pixels are opaque (255), except by the options: `levels: true` gives each colour the opacity that the disc sets for
-     * it, and `clear: [k, ..]` makes colours transparent by their numbers.
+     * Writes the picture with four bytes per pixel: red, green, blue and opacity. The target is `image`, an `ImageData` of 300 by
+     * 216 pixels. Without `image`, it is an array of this player, which the next picture overwrites. All pixels are opaque (255),
+     * unless options are given: `levels: true` gives each colour the opacity that the disc sets for it, and `clear: [k, ..]` makes
+     * the colours with these numbers transparent.
      */
     picture(image, options = {}) {
         if (image === undefined) {
@@ -649,13 +652,13 @@ export class Player {
     }
 
     /**
-     * Writes the picture into `image`, as `picture` does, and gives the smallest rectangle that holds the pixels of the image
-     * that changed, or null if none did.
+     * Writes the picture into `image` like `picture`, and returns the smallest rectangle with all changed pixels, or null if no
+     * pixel has changed.
      */
     update(image, options = {}) {
         const data = pixelsOf(image);
         this.#pixels(options);
-        const pixels = this.#room.words(this.#work, PIXELS);
+        const pixels = this.#memory.words(this.#work, PIXELS);
         const shown = data.byteOffset % 4 === 0 ? new Uint32Array(data.buffer, data.byteOffset, PIXELS)
             : new Uint32Array(Uint8Array.from(data).buffer);
         let [left, right, top, bottom] = [WIDTH, -1, HEIGHT, -1];
@@ -679,7 +682,7 @@ export class Player {
             return null;
         }
         const [from, to] = [4 * WIDTH * top, 4 * WIDTH * (bottom + 1)];
-        data.set(this.#room.bytes.subarray(this.#work + from, this.#work + to), from);
+        data.set(this.#memory.bytes.subarray(this.#work + from, this.#work + to), from);
         return { x: left, y: top, width: right - left + 1, height: bottom - top + 1 };
     }
 
@@ -688,22 +691,22 @@ export class Player {
         const { levels, clear } = pictureOptions(options);
         const at = this.#at;
         if (levels) {
-            this.#room.call("pixels", at, 1, BigInt(this.#work));
+            this.#memory.call("pixels", at, 1, BigInt(this.#work));
         } else {
-            this.#room.call("picture", at, BigInt(this.#work));
+            this.#memory.call("picture", at, BigInt(this.#work));
         }
         if (clear.length > 0) {
             this.#makeClear(clear);
         }
-        return this.#room.bytes.subarray(this.#work, this.#work + 4 * PIXELS);
+        return this.#memory.bytes.subarray(this.#work, this.#work + 4 * PIXELS);
     }
 
     #makeClear(clear) {
-        const behind = this.#work + 4 * PIXELS;
-        this.#room.call("screen", this.#at, BigInt(behind));
+        const end = this.#work + 4 * PIXELS;
+        this.#memory.call("screen", this.#at, BigInt(end));
         const isClear = Uint8Array.from({ length: COLOURS }, (_, colour) => (clear.includes(colour) ? 1 : 0));
-        const pixels = this.#room.bytes.subarray(this.#work, behind);
-        const colours = this.#room.bytes.subarray(behind, behind + PIXELS);
+        const pixels = this.#memory.bytes.subarray(this.#work, end);
+        const colours = this.#memory.bytes.subarray(end, end + PIXELS);
         for (let pixel = 0; pixel < PIXELS; pixel += 1) {
             if (isClear[colours[pixel]] === 1) {
                 pixels[4 * pixel + 3] = 0;
@@ -713,14 +716,14 @@ export class Player {
 
     /** The numbers of the colours of the screen's pixels, row by row. */
     screen() {
-        this.#room.call("screen", this.#at, BigInt(this.#work));
-        return this.#room.bytes.slice(this.#work, this.#work + PIXELS);
+        this.#memory.call("screen", this.#at, BigInt(this.#work));
+        return this.#memory.bytes.slice(this.#work, this.#work + PIXELS);
     }
 
     /** The colours as 0xRGB, their levels, the border and the offsets. */
     shown() {
-        this.#room.call("shown", this.#at, BigInt(this.#work));
-        const numbers = this.#room.numbers(this.#work);
+        this.#memory.call("shown", this.#at, BigInt(this.#work));
+        const numbers = this.#memory.numbers(this.#work);
         return {
             colours: Array.from({ length: COLOURS }, (_, k) => numbers.getUint16(2 * k, true)),
             levels: Array.from({ length: COLOURS }, (_, k) => numbers.getUint8(32 + k)),
@@ -732,62 +735,63 @@ export class Player {
 
     /** The player's form and lead-in, and its counts since it began: blocks, words and bad words. */
     counts() {
-        this.#room.call("counts", this.#at, BigInt(this.#work));
-        const numbers = this.#room.numbers(this.#work);
+        this.#memory.call("counts", this.#at, BigInt(this.#work));
+        const numbers = this.#memory.numbers(this.#work);
         const [form, leadIn, blocks, bad] = [8, 12, 16, 20].map((at) => numbers.getUint32(at, true));
         return { form: form === 1 ? "packs" : "raw", leadIn, blocks, words: Number(numbers.getBigUint64(0, true)), bad };
     }
 
-    /** The checkpoint's file, as the command `save` writes it, or null for a stream of packs or one that is too long. */
+    /** The checkpoint file, as the command `save` writes it, or null if the stream consists of packs or is too long. */
     save() {
-        if (this.#room.call("save", this.#at, BigInt(this.#work)) !== 0) {
+        if (this.#memory.call("save", this.#at, BigInt(this.#work)) !== 0) {
             return null;
         }
-        return this.#room.bytes.slice(this.#work, this.#work + FILE_BYTES);
+        return this.#memory.bytes.slice(this.#work, this.#work + FILE_BYTES);
     }
 
-    /** Restores the checkpoint of a file. */
+    /** Restores a checkpoint from a file. */
     load(file) {
         const bytes = exactly("file", file, FILE_BYTES);
-        const told = this.#work + PAGE_BYTES;
-        if (this.#room.call("load", this.#at, this.#room.put(this.#work, bytes), BigInt(told)) !== 0) {
-            throw new RangeError(`file: it is no checkpoint: byte ${this.#room.numbers(told).getUint32(0, true)} is out of its range`);
+        const place = this.#work + PAGE_BYTES;
+        if (this.#memory.call("load", this.#at, this.#memory.put(this.#work, bytes), BigInt(place)) !== 0) {
+            const byte = this.#memory.numbers(place).getUint32(0, true);
+            throw new RangeError(`file: not a checkpoint, byte ${byte} is out of range`);
         }
     }
 
     /** Becomes a copy of another player of the same module. */
     copyFrom(other) {
         if (!(other instanceof Player)) {
-            throw new TypeError(`other: a Player is wanted, not ${kindOf(other)}`);
+            throw new TypeError(`other: expected a Player, got ${kindOf(other)}`);
         }
-        if (other.#room !== this.#room) {
-            throw new RangeError("other: it is a player of another module");
+        if (other.#memory !== this.#memory) {
+            throw new RangeError("other: the player belongs to another module");
         }
         const [to, from] = [Number(this.#at), Number(other.#at)];
-        this.#room.bytes.copyWithin(to, from, from + PLAYER_BYTES);
+        this.#memory.bytes.copyWithin(to, from, from + PLAYER_BYTES);
     }
 
     /** A copy of this player. */
     copy() {
         const from = Number(this.#at);
         const other = new Player(this.#shared, {});
-        this.#room.bytes.copyWithin(other.#place.at, from, from + PLAYER_BYTES);
+        this.#memory.bytes.copyWithin(other.#place.at, from, from + PLAYER_BYTES);
         return other;
     }
 
-    /** Frees the memory of the player, which cannot be used any more. Closing it again does nothing. */
+    /** Frees the memory of the player, which can then no longer be used. Closing it again has no effect. */
     close() {
         if (this.#place !== null) {
-            this.#room.give(this.#place);
+            this.#memory.free(this.#place);
             this.#place = null;
         }
     }
 }
 
 /**
- * A player of a whole stream that goes to any of its blocks, or any pack of a .cdg file. The module's memory holds a copy of
- * the blocks or packs, and marks of the player on its way, 65,088 bytes each, at most `marks` of them (default 128). After
- * `seek(n)` the player is exactly one that read the first n blocks, which is proved of the module's call.
+ * A player of a whole stream that can seek to any of its blocks, or to any pack of a .cdg file. The module's memory has a copy of
+ * the blocks or packs, and at most `marks` (default 128) marks of 65,088 bytes. A mark is the state of the player at a position.
+ * After `seek(n)`, the player is equal to one that has read the first n blocks (proved for the module's call).
  */
 export class Seeker {
     #shared;
@@ -796,16 +800,16 @@ export class Seeker {
     #leadIn;
     #unit;
     #length;
-    // The blocks or packs from one mark to the next, and the number of marks.
+    // The number of blocks or packs from one mark to the next, and the number of marks.
     #every;
     #count;
-    // The buffers of the blocks or packs and of the marks, until they are freed.
+    // The buffers of the blocks or packs and of the marks, or null after they are freed.
     #units = null;
     #marks = null;
     #position = 0;
 
     constructor(shared, stream, options) {
-        if (!(shared?.room instanceof Room)) {
+        if (!(shared?.memory instanceof ModuleMemory)) {
             throw new TypeError("a Seeker is made by Ribjasper.seeker()");
         }
         const { form, leadIn, unit } = seekerOptions(options);
@@ -819,33 +823,33 @@ export class Seeker {
         this.#count = Math.floor(this.#length / this.#every);
         this.#player = new Player(shared, { form: form === "packs" ? "packs" : "raw", leadIn });
         try {
-            this.#units = shared.room.take(this.#unit * this.#length);
-            this.#marks = shared.room.take(MARK_BYTES * this.#count);
+            this.#units = shared.memory.allocate(this.#unit * this.#length);
+            this.#marks = shared.memory.allocate(MARK_BYTES * this.#count);
         } catch (error) {
             this.close();
             throw error;
         }
         putUnits(shared, bytes, form, this.#length, this.#units.at);
         // Marks of all zeros are not set.
-        shared.room.bytes.fill(0, this.#marks.at, this.#marks.at + MARK_BYTES * this.#count);
+        shared.memory.bytes.fill(0, this.#marks.at, this.#marks.at + MARK_BYTES * this.#count);
     }
 
-    /** The player, to look at. It belongs to the seeker. */
+    /** The player, for reading only. It belongs to the seeker. */
     get player() {
         return this.#player;
     }
 
-    /** How many blocks, or packs, the stream has. */
+    /** The number of blocks or packs of the stream. */
     get length() {
         return this.#length;
     }
 
-    /** How many of them the player has read. */
+    /** The number of blocks or packs that the player has read. */
     get position() {
         return this.#position;
     }
 
-    /** Goes to where the first `position` blocks, or packs, are read. */
+    /** Seeks to the position after the first `position` blocks or packs. */
     seek(position) {
         const to = numberOf("position", position, this.#length);
         if (this.#units === null) {
@@ -853,26 +857,26 @@ export class Seeker {
         }
         const isNear = to >= this.#position && Math.floor(to / this.#every) === Math.floor(this.#position / this.#every);
         if (isNear) {
-            this.#goOn(to);
+            this.#readTo(to);
         } else {
-            this.#goTo(to);
+            this.#seekFromMark(to);
         }
         this.#position = to;
     }
 
-    /** There is no mark between here and there, so the player reads on. */
-    #goOn(to) {
+    /** Seeks forward without a mark in between: the player reads on. */
+    #readTo(to) {
         const at = BigInt(this.#units.at + this.#unit * this.#position);
         const count = to - this.#position;
         const call = this.#form === "cdg" ? "draw_all" : "feed_changes";
-        callOn(this.#player, call, at, BigInt(count), BigInt(this.#shared.work));
+        callWithPlayer(this.#player, call, at, BigInt(count), BigInt(this.#shared.work));
     }
 
-    #goTo(to) {
+    #seekFromMark(to) {
         const units = [BigInt(this.#units.at), BigInt(this.#length), BigInt(to)];
         const marks = [BigInt(this.#marks.at), BigInt(this.#count), this.#every];
-        const answer = this.#form === "cdg" ? callOn(this.#player, "seek_packs", ...units, ...marks)
-            : callOn(this.#player, "seek", this.#form === "packs" ? 1 : 0, this.#leadIn, ...units, ...marks);
+        const answer = this.#form === "cdg" ? callWithPlayer(this.#player, "seek_packs", ...units, ...marks)
+            : callWithPlayer(this.#player, "seek", this.#form === "packs" ? 1 : 0, this.#leadIn, ...units, ...marks);
         if (answer !== 0) {
             throw new Error(`the module refuses to seek: ${answer}`);
         }
@@ -881,7 +885,7 @@ export class Seeker {
     /** Frees the player, the marks and the copy of the stream. */
     close() {
         this.#player.close();
-        [this.#units, this.#marks].filter((it) => it !== null).forEach((it) => this.#shared.room.give(it));
+        [this.#units, this.#marks].filter((it) => it !== null).forEach((it) => this.#shared.memory.free(it));
         [this.#units, this.#marks] = [null, null];
     }
 }
@@ -894,12 +898,12 @@ export class Survey {
     constructor(bytes) {
         this.#bytes = bytesOf("bytes", bytes);
         if (this.#bytes.length % ROW_BYTES !== 0) {
-            throw new RangeError(`bytes: rows of ${ROW_BYTES} bytes are wanted, not ${this.#bytes.length} bytes`);
+            throw new RangeError(`bytes: expected rows of ${ROW_BYTES} bytes, got ${this.#bytes.length} bytes`);
         }
         this.#numbers = new DataView(this.#bytes.buffer, this.#bytes.byteOffset, this.#bytes.byteLength);
     }
 
-    /** How many blocks were surveyed. */
+    /** The number of surveyed blocks. */
     get length() {
         return this.#bytes.length / ROW_BYTES;
     }
@@ -911,7 +915,7 @@ export class Survey {
         return ROW_BYTES * numberOf("block", block, this.length - 1);
     }
 
-    /** The words that end with a block: how many are codewords, have one or two wrong symbols, or have no codeword near. */
+    /** The words that end with a block: the numbers of codewords, of words with one or two wrong symbols, and of bad words. */
     words(block) {
         const at = this.#row(block);
         return {
@@ -957,9 +961,9 @@ export class Survey {
     }
 }
 
-/** The packs that `take` wrote, 28 bytes each, as those of a .cdg file, and how many have no codeword near. */
-function readPacks(room, count, at) {
-    const read = room.words(at, (READ_PACK_BYTES / 4) * count);
+/** The packs that `take` has written, 28 bytes each, as packs of a .cdg file, and the number of those that cannot be corrected. */
+function readPacks(memory, count, at) {
+    const read = memory.words(at, (READ_PACK_BYTES / 4) * count);
     const packs = new Uint32Array((PACK_BYTES / 4) * count);
     let bad = 0;
     for (let pack = 0; pack < count; pack += 1) {
@@ -975,25 +979,25 @@ function readPacks(room, count, at) {
     return { packs: new Uint8Array(packs.buffer), bad };
 }
 
-/** Copies blocks of 96 bytes, or the packs of a .cdg file, to a place of the module's memory; planar blocks become raw ones. */
-function putUnits({ room, chunk }, bytes, form, count, at) {
+/** Copies blocks, or packs of a .cdg file, to a place in the module's memory. Planar blocks are converted to raw ones. */
+function putUnits({ memory, chunk }, bytes, form, count, at) {
     if (form === "planar") {
         for (let done = 0; done < count; done += BLOCKS_A_CHUNK) {
             const more = Math.min(BLOCKS_A_CHUNK, count - done);
-            room.put(chunk, bytes.subarray(BLOCK_BYTES * done, BLOCK_BYTES * (done + more)));
-            room.fromPlanar(chunk, at + BLOCK_BYTES * done, more);
+            memory.put(chunk, bytes.subarray(BLOCK_BYTES * done, BLOCK_BYTES * (done + more)));
+            memory.fromPlanar(chunk, at + BLOCK_BYTES * done, more);
         }
     } else if (form === "sectors") {
         for (let block = 0; block < count; block += 1) {
             const end = SECTOR_BYTES * (block + 1);
-            room.put(at + BLOCK_BYTES * block, bytes.subarray(end - BLOCK_BYTES, end));
+            memory.put(at + BLOCK_BYTES * block, bytes.subarray(end - BLOCK_BYTES, end));
         }
     } else {
-        room.put(at, bytes.subarray(0, (form === "cdg" ? PACK_BYTES : BLOCK_BYTES) * count));
+        memory.put(at, bytes.subarray(0, (form === "cdg" ? PACK_BYTES : BLOCK_BYTES) * count));
     }
 }
 
-/** The smallest rectangle around two, of which the first may be null. */
+/** The smallest rectangle around two rectangles; the first one may be null. */
 function around(one, other) {
     if (one === null) {
         return other;
@@ -1007,16 +1011,16 @@ function around(one, other) {
     };
 }
 
-/** The raw blocks of planar ones, at most a chunk, as a view that the next call may overwrite. */
-function turned({ room, chunk, turned: to }, planar) {
-    room.put(chunk, planar);
-    room.fromPlanar(chunk, to, planar.length / BLOCK_BYTES);
-    return room.bytes.subarray(to, to + planar.length);
+/** Converts planar blocks, at most a chunk, to raw ones. Returns a view that the next call may overwrite. */
+function rawFromPlanar({ memory, chunk, converted: to }, planar) {
+    memory.put(chunk, planar);
+    memory.fromPlanar(chunk, to, planar.length / BLOCK_BYTES);
+    return memory.bytes.subarray(to, to + planar.length);
 }
 
 // ---- arguments
 
-/** What a value is, for an error message. */
+/** A description of a value for an error message. */
 function kindOf(value) {
     if (value === null || value === undefined) {
         return `${value}`;
@@ -1031,7 +1035,7 @@ function kindOf(value) {
 function bytesOf(name, value) {
     const isBuffer = value instanceof ArrayBuffer || (typeof SharedArrayBuffer !== "undefined" && value instanceof SharedArrayBuffer);
     if (!isBuffer && !(value instanceof Uint8Array) && !(value instanceof Uint8ClampedArray)) {
-        throw new TypeError(`${name}: a Uint8Array or an ArrayBuffer is wanted, not ${kindOf(value)}`);
+        throw new TypeError(`${name}: expected a Uint8Array or an ArrayBuffer, got ${kindOf(value)}`);
     }
     if ((isBuffer ? value : value.buffer).detached === true) {
         throw new TypeError(`${name}: its buffer is detached`);
@@ -1042,7 +1046,7 @@ function bytesOf(name, value) {
 function exactly(name, value, count) {
     const bytes = bytesOf(name, value);
     if (bytes.length !== count) {
-        throw new RangeError(`${name}: ${count} bytes are wanted, not ${bytes.length}`);
+        throw new RangeError(`${name}: expected ${count} bytes, got ${bytes.length}`);
     }
     return bytes;
 }
@@ -1050,17 +1054,17 @@ function exactly(name, value, count) {
 /** A whole number from 0 to a maximum. */
 function numberOf(name, value, most) {
     if (typeof value !== "number") {
-        throw new TypeError(`${name}: a number is wanted, not ${kindOf(value)}`);
+        throw new TypeError(`${name}: expected a number, got ${kindOf(value)}`);
     }
     if (!Number.isInteger(value) || value < 0 || value > most) {
-        throw new RangeError(`${name}: a whole number from 0 to ${most} is wanted, not ${value}`);
+        throw new RangeError(`${name}: expected a whole number from 0 to ${most}, got ${value}`);
     }
     return value;
 }
 
 function optionsOf(options) {
     if (typeof options !== "object" || options === null) {
-        throw new TypeError(`options: an object is wanted, not ${kindOf(options)}`);
+        throw new TypeError(`options: expected an object, got ${kindOf(options)}`);
     }
     return options;
 }
@@ -1071,10 +1075,10 @@ function leadInOf({ leadIn = 0 }) {
 
 function formIn(form, forms) {
     if (typeof form !== "string") {
-        throw new TypeError(`form: a string is wanted, not ${kindOf(form)}`);
+        throw new TypeError(`form: expected a string, got ${kindOf(form)}`);
     }
     if (!forms.includes(form)) {
-        throw new RangeError(`form: one of ${forms.join(", ")} is wanted, not ${form}`);
+        throw new RangeError(`form: expected one of ${forms.join(", ")}, got ${form}`);
     }
     return form;
 }
@@ -1098,12 +1102,12 @@ function seekerOptions(options) {
     formIn(form, [...FORMS.keys(), "cdg"]);
     const leadIn = leadInOf(options);
     if (form === "cdg" && leadIn > 0) {
-        throw new RangeError(`leadIn: a .cdg file has no lead-in, not ${leadIn}`);
+        throw new RangeError(`leadIn: expected 0 for a .cdg file, got ${leadIn}`);
     }
     return { form, leadIn, unit: form === "cdg" ? PACK_BYTES : unitOf(form) };
 }
 
-/** The distance of marks: ten seconds of blocks, or more, so that there are not too many. */
+/** The distance of marks: ten seconds, or more if there would be too many marks. */
 function everyOf({ form = "raw", marks = 128 }, length) {
     const most = numberOf("marks", marks, 1_000_000);
     const least = 10 * (form === "cdg" ? PACKS_A_SECOND : BLOCKS_A_SECOND);
@@ -1113,10 +1117,10 @@ function everyOf({ form = "raw", marks = 128 }, length) {
 function pictureOptions(options) {
     const { levels = false, clear = [] } = optionsOf(options);
     if (typeof levels !== "boolean") {
-        throw new TypeError(`levels: true or false is wanted, not ${kindOf(levels)}`);
+        throw new TypeError(`levels: expected true or false, got ${kindOf(levels)}`);
     }
     if (!Array.isArray(clear)) {
-        throw new TypeError(`clear: an array of numbers of colours is wanted, not ${kindOf(clear)}`);
+        throw new TypeError(`clear: expected an array of colour numbers, got ${kindOf(clear)}`);
     }
     clear.forEach((colour, k) => numberOf(`clear[${k}]`, colour, COLOURS - 1));
     return { levels, clear };
@@ -1126,10 +1130,10 @@ function pictureOptions(options) {
 function pixelsOf(image) {
     const data = image?.data;
     if (!(data instanceof Uint8ClampedArray) && !(data instanceof Uint8Array)) {
-        throw new TypeError(`image: an ImageData is wanted, not ${kindOf(image)}`);
+        throw new TypeError(`image: expected an ImageData, got ${kindOf(image)}`);
     }
     if (data.length !== 4 * PIXELS || (image.width ?? WIDTH) !== WIDTH) {
-        throw new RangeError(`image: ${WIDTH} by ${HEIGHT} pixels are wanted, not ${data.length} bytes`);
+        throw new RangeError(`image: expected ${WIDTH} by ${HEIGHT} pixels, got ${data.length} bytes`);
     }
     return data;
 }
@@ -1138,7 +1142,7 @@ function wholeUnits(stream, options) {
     const bytes = bytesOf("stream", stream);
     const { unit } = streamOptions(options);
     if (bytes.length % unit !== 0) {
-        throw new RangeError(`stream: whole units of ${unit} bytes are wanted, not ${bytes.length} bytes`);
+        throw new RangeError(`stream: expected whole units of ${unit} bytes, got ${bytes.length} bytes`);
     }
     return bytes;
 }
@@ -1146,7 +1150,7 @@ function wholeUnits(stream, options) {
 function wholePacks(packs) {
     const bytes = bytesOf("packs", packs);
     if (bytes.length % PACK_BYTES !== 0) {
-        throw new RangeError(`packs: whole packs of ${PACK_BYTES} bytes are wanted, not ${bytes.length} bytes`);
+        throw new RangeError(`packs: expected whole packs of ${PACK_BYTES} bytes, got ${bytes.length} bytes`);
     }
     return bytes;
 }

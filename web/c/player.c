@@ -1,5 +1,5 @@
-/* Feeds the raw stream on standard input, and writes the screen after BLOCKS blocks to standard output, as a pixmap: player BLOCKS.
-   With -m it measures the time of a block and of a picture. */
+/* Feeds a raw stream from standard input, and writes the screen after BLOCKS blocks to standard output, as a pixmap: player BLOCKS.
+   player -m prints the times of feeding a block and of making a picture. */
 #include "ribjasper_c.h"
 
 #include <stdio.h>
@@ -17,18 +17,18 @@ static int measure(ribjasper_c *player)
 {
     size_t blocks = fread(stream, RIBJASPER_C_BLOCK, 4096, stdin);
     clock_t start = clock();
-    double fed, seen;
+    double feeding, drawing;
     long k;
     if (blocks == 0)
         return 1;
     for (k = 0; k < 400000; k++)
         ribjasper_c_feed(player, stream[(size_t)k % blocks]);
-    fed = (double)(clock() - start) / CLOCKS_PER_SEC;
+    feeding = (double)(clock() - start) / CLOCKS_PER_SEC;
     start = clock();
     for (k = 0; k < 2000; k++)
         ribjasper_c_picture(player, picture);
-    seen = (double)(clock() - start) / CLOCKS_PER_SEC;
-    printf("a block in %.2f microseconds, a picture in %.1f\n", 1e6 * fed / 400000, 1e6 * seen / 2000);
+    drawing = (double)(clock() - start) / CLOCKS_PER_SEC;
+    printf("a block in %.2f microseconds, a picture in %.1f\n", 1e6 * feeding / 400000, 1e6 * drawing / 2000);
     return 0;
 }
 

@@ -1,4 +1,4 @@
-/* The calls of ribjasper_c.h, over the translated module. */
+/* The calls of ribjasper_c.h, which call the translated module. */
 #include "ribjasper_c.h"
 
 #include "ribjasper_wasm.h"
@@ -6,8 +6,7 @@
 #include <stdlib.h>
 #include <string.h>
 
-/* The places in the module's memory behind the memory that the module uses itself: the player, small inputs, and a picture or
-   a file. */
+/* Offsets in the added pages of the module's memory: the player, small inputs, and a picture or a file. */
 enum { PAGE = 65536, PLAYER = 0, SMALL = PAGE, LARGE = 2 * PAGE, PAGES = 6 };
 
 struct ribjasper_c {
