@@ -153,14 +153,14 @@ def main() -> int:
     others.add_parser("state", help="the lines of `ribjasper state` at its end")
     without = others.add_parser("without", help="a stream in which one instruction is idle")
     without.add_argument("code", type=int, help="the instruction")
-    words = parser.parse_args()
+    arguments = parser.parse_args()
     packs = scene()
-    if words.other == "state":
+    if arguments.other == "state":
         print("\n".join(state()))
         return 0
-    if words.other == "without":
-        packs = [IDLE if word[1] == words.code else word for word in packs]
-    sys.stdout.buffer.write(b"".join(map(bytes, packs)) if words.other == "cdg" else spread(packs))
+    if arguments.other == "without":
+        packs = [IDLE if word[1] == arguments.code else word for word in packs]
+    sys.stdout.buffer.write(b"".join(map(bytes, packs)) if arguments.other == "cdg" else spread(packs))
     return 0
 
 

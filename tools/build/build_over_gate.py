@@ -51,7 +51,7 @@ def kit() -> ModuleType:
     return rtlib
 
 
-def left_by_the_gate(rlib: str) -> bool:
+def is_from_gate(rlib: str) -> bool:
     """Whether the gate built this library. The gate writes no stamp; `rt lib` does."""
     return os.path.isfile(f"{rlib}/format") and not os.path.exists(f"{os.path.dirname(rlib)}/stamp")
 
@@ -92,7 +92,7 @@ def main() -> int:
     os.chdir(folder)
     rtlib = kit()
     crate = rtlib.Crate(str(folder), str(TOP), {}, name=None)
-    if not all(left_by_the_gate(it.rlib) or (arguments.kept and it.is_built()) for it in crate.below()):
+    if not all(is_from_gate(it.rlib) or (arguments.kept and it.is_built()) for it in crate.below()):
         print("build_over_gate: a library below this crate is not proved", file=sys.stderr)
         return NOT_PROVED
     options = ["--cpu", arguments.cpu] if arguments.cpu else []

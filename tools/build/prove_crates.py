@@ -270,8 +270,8 @@ def main() -> int:
     )
     parser.add_argument("crates", nargs="+", choices=below, metavar="CRATE", help="a crate of the repository")
     parser.add_argument("--write", action="store_true", help="write the measured times to the table; only after `make clean`")
-    words = parser.parse_args()
-    names = libraries(below, words.crates)
+    arguments = parser.parse_args()
+    names = libraries(below, arguments.crates)
     _lock = lock_checkout()
     proving = Proving(names, below, stamps(names, below), parallel_checks())
     if proving.left:
@@ -279,7 +279,7 @@ def main() -> int:
         print(f"proving {number} of {len(names)} crates, {proving.parallel} at a time: about {how_long}", flush=True)
     try:
         is_proved = proving.run()
-        if words.write:
+        if arguments.write:
             write_table(TABLE, {**read_table(TABLE), **proving.measured})
         return 0 if is_proved else 1
     except KeyboardInterrupt:

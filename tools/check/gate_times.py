@@ -112,10 +112,10 @@ def main() -> int:
     how.add_argument("--anew", action="store_true", help="prove and test everything from the beginning")
     how.add_argument("--again", action="store_true", help="only print the table of the log")
     parser.add_argument("log", nargs="?", type=pathlib.Path, default="gate.log", help="default: gate.log")
-    words = parser.parse_args()
-    if not words.again:
-        return run(words.log, words.anew)
-    print("\n".join(re.findall(r"(?m)^times: .*", words.log.read_text(errors="replace"))))
+    arguments = parser.parse_args()
+    if not arguments.again:
+        return run(arguments.log, arguments.anew)
+    print("\n".join(re.findall(r"(?m)^times: .*", arguments.log.read_text(errors="replace"))))
     return 0
 
 

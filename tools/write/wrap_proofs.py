@@ -27,7 +27,7 @@ LIMIT, COMMENT_LIMIT = 110, 120
 # The maximum number of rounds that break and indent the lines of a file.
 ROUNDS = 6
 # A broken part begins on the line of the previous part if that line has at most this number of letters.
-BEGUN = 75
+MOST_BEFORE_PART = 75
 # The additional indent of the right side of `=`, and of an item in a bracket.
 DEEPER, ITEM = 4, 2
 
@@ -47,19 +47,19 @@ class Break(NamedTuple):
     """Operators before which (or after which) lines are broken: at each of them, or only when a line is full."""
 
     operators: set[str]
-    behind: bool = False
+    after: bool = False
     fills: bool = False
 
 
-IN = Break({"in"}, behind=True)
+IN = Break({"in"}, after=True)
 ARROW = Break({"→"}, fills=True)
 # The other operators, those that bind least first.
 BREAKS = (
     ARROW,
     Break({"⊎"}),
     Break({"×"}),
-    Break({"∵"}, behind=True),
-    Break({"$"}, behind=True, fills=True),
+    Break({"∵"}, after=True),
+    Break({"$"}, after=True, fills=True),
     Break({"∙"}),
     Break({"≡", "≤", "<", "≢", "↔", "⊑", "∣"}),
     Break({"then", "else"}),
@@ -85,17 +85,17 @@ class Room(NamedTuple):
 
     indent: int
     before: int = 0
-    behind: int = 0
+    after: int = 0
     # Whether the next line of the file continues with an arrow.
-    goes_on: bool = False
+    continues: bool = False
 
     def fits(self, text: str) -> bool:
         """Whether a text has room on one line."""
-        return self.indent + self.before + len(text) + self.behind <= LIMIT
+        return self.indent + self.before + len(text) + self.after <= LIMIT
 
     def head(self) -> "Room":
         """The room of a first part, after which the line is broken."""
-        return self._replace(behind=0)
+        return self._replace(after=0)
 
     def below(self, deeper: int = 0) -> "Room":
         """The room of a text that begins a new line."""
@@ -131,7 +131,7 @@ def unquoted(text: str) -> str:
     return STRING.sub(lambda it: '"' * len(it[0]), text)
 
 
-def cut(text: str, separator: str) -> list[str]:
+def split_outside(text: str, separator: str) -> list[str]:
     """The parts of a text between separators outside of brackets and strings."""
     depth, begin, parts = 0, 0, []
     for mark in re.finditer(f"{BRACKET.pattern}|{re.escape(separator)}", unquoted(text)):
@@ -147,7 +147,7 @@ def cut(text: str, separator: str) -> list[str]:
 
 def outer_words(text: str) -> list[str]:
     """The words of a text; a bracket and its contents belong to one word."""
-    return [word for word in cut(text, " ") if word]
+    return [word for word in split_outside(text, " ") if word]
 
 
 def longest_bracket(text: str) -> tuple[int, int]:
@@ -167,7 +167,7 @@ def longest_bracket(text: str) -> tuple[int, int]:
 
 def segments(words: list[str], at: Break, limit: int) -> list[str]:
     """Words joined to segments, which are separated by the breaks among the first `limit` words."""
-    places = (number + at.behind for number, word in enumerate(words[:limit]) if word in at.operators)
+    places = (number + at.after for number, word in enumerate(words[:limit]) if word in at.operators)
     begins = [0, *(it for it in places if 0 < it < len(words)), len(words)]
     return [" ".join(words[begin:end]) for begin, end in pairwise(begins)]
 
@@ -213,25 +213,25 @@ def stacked(parts: list[str], room: Room) -> list[str]:
     return out + lay(parts[-1], room.below())
 
 
-def filled(parts: list[str], room: Room, last_alone: bool = False) -> list[str]:
-    """The lines of parts, with as many parts on each line as fit. With `last_alone`, the last part begins a new line."""
+def filled(parts: list[str], room: Room, last_on_new_line: bool = False) -> list[str]:
+    """The lines of parts, with as many parts on each line as fit. With `last_on_new_line`, the last part begins a new line."""
     lines: list[str] = []
     for part in parts[:-1]:
         lines = with_part(lines, part, room.head())
-    return with_part(lines, parts[-1], room, last_alone)
+    return with_part(lines, parts[-1], room, last_on_new_line)
 
 
-def with_part(lines: list[str], part: str, room: Room, alone: bool = False) -> list[str]:
+def with_part(lines: list[str], part: str, room: Room, on_new_line: bool = False) -> list[str]:
     """Lines with one more part: on the last line if it fits or can begin there, and otherwise on a new line."""
     if not lines:
         return lay(part, room)
     *done, line = lines
     here, below = room.following(line, not done), room.below()
-    if alone:
+    if on_new_line:
         return [*lines, *lay(part, below)]
     if here.fits(part):
         return [*done, f"{line} {part}"]
-    if not below.fits(part) and (here.before <= BEGUN + 1 or part[0] in "[{"):
+    if not below.fits(part) and (here.before <= MOST_BEFORE_PART + 1 or part[0] in "[{"):
         first, *rest = lay(part, here)
         if here.head().fits(first):
             return [*done, f"{line} {first}", *rest]
@@ -261,7 +261,7 @@ def at_operators(words: list[str], room: Room) -> list[str]:
     for at in BREAKS:
         parts = segments(words, at, limit)
         if len(parts) > 1:
-            return filled(parts, room, at == ARROW and not room.goes_on) if at.fills else stacked(parts, room)
+            return filled(parts, room, at == ARROW and not room.continues) if at.fills else stacked(parts, room)
     return []
 
 
@@ -311,9 +311,9 @@ def within(text: str, room: Room) -> list[str]:
         return [text]
     items = items_of(text[begin], inner) if closing else []
     if items:
-        inside = Room(room.indent + ITEM, goes_on=room.goes_on)
+        inside = Room(room.indent + ITEM, continues=room.continues)
         return [opening, *(line for item in items for line in lay(item, inside)), closing]
-    taken = room._replace(before=room.before + len(opening), behind=len(closing) + room.behind)
+    taken = room._replace(before=room.before + len(opening), after=len(closing) + room.after)
     lines = lay(inner.strip(), taken)
     lines[0] = opening + lines[0]
     lines[-1] += closing
@@ -323,9 +323,9 @@ def within(text: str, room: Room) -> list[str]:
 def items_of(bracket: str, inner: str) -> list[str]:
     """The items of a tuple, a record or cases with their separators; none for another bracket."""
     if bracket == "[":
-        return ["| " + it.strip().removeprefix("| ") for it in cut(inner.strip(), " | ")]
+        return ["| " + it.strip().removeprefix("| ") for it in split_outside(inner.strip(), " | ")]
     separator = "," if bracket == "(" else ";"
-    items = [it.strip() for it in cut(inner, separator)]
+    items = [it.strip() for it in split_outside(inner, separator)]
     is_list = len(items) > 1 if bracket == "(" else inner.startswith(" ")
     return [it + separator for it in items if it] if is_list else []
 
@@ -333,7 +333,7 @@ def items_of(bracket: str, inner: str) -> list[str]:
 # Functions that break the lines of a file.
 
 
-def wrapped(line: str, goes_on: bool, imports: bool) -> list[str]:
+def wrapped(line: str, continues: bool, imports: bool) -> list[str]:
     """Breaks a line of a proof into several lines, if this is possible."""
     if len(line) <= LIMIT:
         return [line]
@@ -348,7 +348,7 @@ def wrapped(line: str, goes_on: bool, imports: bool) -> list[str]:
     indent = len(line) - len(body)
     found = LEFT_OPEN.search(body)
     left_open = found[0] if found else ""
-    first, *rest = lay(body.removesuffix(left_open), Room(indent, 0, len(left_open), goes_on))
+    first, *rest = lay(body.removesuffix(left_open), Room(indent, 0, len(left_open), continues))
     # The columns need not be right, because `rattle fmt` indents the lines.
     lines = [" " * indent + first, *(" " * (indent + DEEPER) + it for it in rest)]
     return [*lines[:-1], lines[-1] + left_open]
@@ -375,7 +375,7 @@ def break_lines(path: Path, imports: bool) -> bool:
     text = path.read_text()
     lines = text.split("\n")
     nexts = [*(line.lstrip().startswith("→") for line in lines[1:]), False]
-    new = "\n".join(part for line, goes_on in zip(lines, nexts) for part in wrapped(line, goes_on, imports))
+    new = "\n".join(part for line, continues in zip(lines, nexts) for part in wrapped(line, continues, imports))
     if new == text:
         return False
     path.write_text(new)
