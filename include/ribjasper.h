@@ -71,16 +71,17 @@ uint32_t ribjasper_version(void);
    use other names for the same numbers, for example RIBJASPER_DONE for RIBJASPER_ANSWER_DONE. These names are older;
    you may use both. */
 typedef enum ribjasper_answer {
-    RIBJASPER_ANSWER_REFUSED = -1,       /* a player is closed or cannot be opened, or a number is out of range */
+    RIBJASPER_ANSWER_REFUSED = -1,       /* a player is closed, or cannot be opened, saved or copied; or a number is
+                                            out of range */
     RIBJASPER_ANSWER_DONE = 0,           /* done */
-    RIBJASPER_ANSWER_DAMAGED = 1,        /* done, but some words have no codeword */
+    RIBJASPER_ANSWER_DAMAGED = 1,        /* done, but some words could not be corrected */
     RIBJASPER_ANSWER_USAGE = 2,          /* a number is out of range, in calls on whole streams and texts */
     RIBJASPER_ANSWER_BAD_INPUT = 3,      /* the stream, the file or the text is refused */
     RIBJASPER_ANSWER_LATE = 4,           /* done, but pictures are late */
-    RIBJASPER_ANSWER_NO_ROOM = 6,        /* the output does not fit */
+    RIBJASPER_ANSWER_NO_ROOM = 6,        /* the output that you passed is too small */
     RIBJASPER_ANSWER_NO_MEMORY = 7,      /* out of memory: malloc failed */
     RIBJASPER_ANSWER_TEXT_MISSING = 8,   /* a CD-TEXT pack is missing */
-    RIBJASPER_ANSWER_TEXT_NO_SIZE = 9,   /* a CD-TEXT pack with the sizes is missing */
+    RIBJASPER_ANSWER_TEXT_NO_SIZE = 9,   /* one of the three CD-TEXT packs with the sizes is missing */
     RIBJASPER_ANSWER_TEXT_MALFORMED = 10 /* a byte of a CD-TEXT pack is invalid */
 } ribjasper_answer;
 
@@ -95,20 +96,20 @@ typedef enum ribjasper_answer {
      text: the output, 64 bytes */
 void ribjasper_answer_text(int32_t answer, char text[RIBJASPER_ANSWER_TEXT]);
 
-#define RIBJASPER_BLOCK 96     /* bytes of a raw block: one for each symbol. Its bit 7 is channel P, its bit 0 channel W. */
+#define RIBJASPER_BLOCK 96     /* bytes of a raw block; in each byte, bit 7 is channel P, bit 0 is channel W */
 #define RIBJASPER_WIDTH 300    /* width of the screen in pixels */
 #define RIBJASPER_HEIGHT 216   /* height of the screen in pixels, with the border */
-#define RIBJASPER_PIXELS 64800 /* pixels of the screen, row by row from the top, each row from the left */
+#define RIBJASPER_PIXELS 64800 /* the number of pixels of the screen (in outputs: row by row, from the top left) */
 #define RIBJASPER_COLOURS 16   /* the number of colours of a player */
 #define RIBJASPER_PICTURE 194400 /* bytes of a picture: three for each pixel, as in RIBJASPER_RGB */
-#define RIBJASPER_WINDOW_LEFT 6     /* the first column of the window inside the border */
+#define RIBJASPER_WINDOW_LEFT 6     /* the first column of the window (the part of the screen inside the border) */
 #define RIBJASPER_WINDOW_TOP 12     /* the first row of the window */
 #define RIBJASPER_WINDOW_WIDTH 288  /* the width of the window in pixels */
 #define RIBJASPER_WINDOW_HEIGHT 192 /* the height of the window in pixels */
 #define RIBJASPER_TILE_WIDTH 6      /* width of a tile in pixels */
 #define RIBJASPER_TILE_HEIGHT 12    /* height of a tile in pixels */
-#define RIBJASPER_TILE_COLUMNS 50   /* columns of tiles in the memory */
-#define RIBJASPER_TILE_ROWS 18      /* rows of tiles in the memory */
+#define RIBJASPER_TILE_COLUMNS 50   /* how many tiles are in a row of a player's memory */
+#define RIBJASPER_TILE_ROWS 18      /* how many rows of tiles are in this memory */
 
 #define RIBJASPER_PACK 24               /* bytes of a pack */
 #define RIBJASPER_SECTOR 2448           /* bytes of a sector: audio and a raw block */
@@ -119,9 +120,9 @@ void ribjasper_answer_text(int32_t answer, char text[RIBJASPER_ANSWER_TEXT]);
 #define RIBJASPER_MOST_LEAD_IN 450000   /* maximum number of blocks of a lead-in */
 #define RIBJASPER_MOST_AUDIO 449999     /* maximum number of audio blocks in ribjasper_plan */
 #define RIBJASPER_MOST_BLOCKS 1000000   /* maximum number of blocks of a whole stream */
-#define RIBJASPER_MOST_TEXT 67108864    /* maximum number of bytes of a sheet or a script */
-#define RIBJASPER_MOST_SHEET_ROWS 9900  /* maximum number of index lines of a sheet */
-#define RIBJASPER_MOST_TEXTS 1048576    /* ribjasper_texts never writes more bytes */
+#define RIBJASPER_MOST_TEXT 67108864    /* maximum number of bytes of a cue sheet or a picture script */
+#define RIBJASPER_MOST_SHEET_ROWS 9900  /* maximum number of INDEX lines of a cue sheet */
+#define RIBJASPER_MOST_TEXTS 1048576    /* maximum number of bytes that ribjasper_texts writes */
 
 /* Returns the number of blocks that are complete after a time.
      milliseconds: the time since the first block began */
@@ -141,9 +142,9 @@ uint64_t ribjasper_time_of_packs(uint32_t packs);
 
 /* These are the forms of a stream. A form says how the bytes of a stream are stored. RIBJASPER_RAW means raw blocks of
    96 bytes. RIBJASPER_PACKS (the form `cooked` of the commands) means packs of 24 bytes, four in each block of 96
-   bytes. The symbols of each pack are already next to each other. A player corrects these packs by their parity.
-   RIBJASPER_SECTORS means sectors of 2,448 bytes, each with 2,352 bytes of audio and a raw block. Only calls on whole
-   streams accept sectors.
+   bytes. In contrast to raw blocks, the symbols of each pack are next to each other. A player corrects these packs by
+   their parity. RIBJASPER_SECTORS means sectors of 2,448 bytes, each with 2,352 bytes of audio and a raw block. Only
+   ribjasper_convert, ribjasper_survey and ribjasper_texts accept sectors.
 
    The packs of a .cdg file may have no valid parity. Do not feed such packs as RIBJASPER_PACKS: usually no codeword is
    near them, so they draw nothing and count as bad words. (The idle packs of such a file are codewords nevertheless.)
@@ -234,9 +235,9 @@ int32_t ribjasper_player_draw(ribjasper_player *player, const uint8_t pack[24]);
 
 /* This struct is the part of the screen that a call may have changed. The part is a rectangle with the pixels from
    column `left` to column `right` - 1, in the rows `top` to `bottom` - 1. If `left` is 300, the rectangle is empty.
-   `colours` is 1 if the colour table may have changed, otherwise 0. `levels` is 1 if the levels may have changed,
-   otherwise 0. If colours or levels changed, any pixel may look different, although its number is the same. Nothing
-   else changed. */
+   `colours` is 1 if the red, green and blue values of colours may have changed, otherwise 0. `levels` is 1 if
+   transparency levels may have changed, otherwise 0. If colours or levels changed, any pixel may look different,
+   although its colour number is the same. Nothing else on the screen changed. */
 typedef struct ribjasper_change {
     uint32_t left;
     uint32_t top;
@@ -247,9 +248,9 @@ typedef struct ribjasper_change {
 } ribjasper_change;
 
 /* Feeds an open player many blocks, as ribjasper_player_feed does with one, and reports the part of the screen that may
-   have changed. This part is the smallest rectangle around the tiles that were drawn. If a memory preset or a scroll was
-   drawn, the rectangle is the window. If a border preset was drawn, it is the whole screen. One call for many blocks is
-   faster than a call for each block.
+   have changed. This part is the smallest rectangle around the tiles that were drawn. If a memory preset or a scroll
+   was drawn, the rectangle is the window (the part of the screen inside the border). If a border preset was drawn, it
+   is the whole screen. One call for many blocks is faster than a call for each block.
      player: the player
      blocks: the blocks, 96 bytes each, one after another
      count: the number of blocks
@@ -269,8 +270,9 @@ int32_t ribjasper_player_draw_all(ribjasper_player *player, const uint8_t *packs
 /* This struct has the counts of a player. The counts begin at 0 when the player is opened or a new stream begins. A
    player that was restored from a checkpoint continues with the counts of the checkpoint. `blocks` is the number of
    blocks, including the lead-in. `words` is the number of words that were complete in the program blocks. `bad` is the
-   number of these words that have no codeword near. Packs that you draw yourself are not counted. `form` and `lead_in`
-   are those of the player's stream. `blocks` and `bad` saturate at 4,294,967,295. */
+   number of these words that have no codeword near. Packs that you draw with ribjasper_player_draw or
+   ribjasper_player_draw_all are not counted. `form` and `lead_in` are the form and the number of lead-in blocks of the
+   player's stream. `blocks` and `bad` saturate at 4,294,967,295. */
 typedef struct ribjasper_counts {
     uint64_t words;
     uint32_t form;
@@ -347,20 +349,20 @@ RIBJASPER_NODISCARD
 int32_t ribjasper_player_pixels(const ribjasper_player *player, uint32_t format, uint32_t x, uint32_t y, uint32_t width,
                                 uint32_t height, uint8_t *out, size_t room, uint32_t stride);
 
-/* Writes one colour of the colour table as 0xRGB: four bits each for red, green and blue.
+/* Writes one of the sixteen colours as 0xRGB: four bits each for red, green and blue.
      player: the player
      k: the number of the colour, 0 to 15
      colour: the output
    Returns RIBJASPER_DONE, or RIBJASPER_REFUSED if the player is closed or `k` is above 15. */
 RIBJASPER_NODISCARD int32_t ribjasper_player_colour(const ribjasper_player *player, uint8_t k, uint16_t *colour);
 
-/* Writes all colours of the colour table, each as 0xRGB.
+/* Writes all sixteen colours, each as 0xRGB: four bits each for red, green and blue.
      player: the player
      colours: the output
    Returns RIBJASPER_DONE, or RIBJASPER_REFUSED if the player is closed. */
 int32_t ribjasper_player_colours(const ribjasper_player *player, uint16_t colours[RIBJASPER_COLOURS]);
 
-/* Writes the transparency levels of all colours, 0 to 63.
+/* Writes the transparency levels of all colours, from 0 (opaque) to 63 (transparent).
      player: the player
      levels: the output
    Returns RIBJASPER_DONE, or RIBJASPER_REFUSED if the player is closed. */
@@ -380,12 +382,12 @@ int32_t ribjasper_player_border(const ribjasper_player *player, uint8_t *border)
 int32_t ribjasper_player_offsets(const ribjasper_player *player, uint8_t *across, uint8_t *down);
 
 /* Checkpoints. A checkpoint is a file with the state of a player. It has the format that `ribjasper save` writes. */
-#define RIBJASPER_CHECKPOINT 65045 /* bytes of the file */
+#define RIBJASPER_CHECKPOINT 65045 /* bytes of a checkpoint */
 #define RIBJASPER_NO_CHECKPOINT 3  /* what ribjasper_player_load returns if the bytes are not a checkpoint */
 
 /* Writes the checkpoint of a player of a raw stream. The checkpoint contains the number of blocks, the number of bad
-   words, the last seven slots of 24 symbols, and the state of the screen. It does not say how many packs you drew
-   yourself. This call allocates 65,056 bytes.
+   words, the last seven slots (groups of 24 symbols), and the state of the screen. It does not say how many packs you
+   drew directly (with ribjasper_player_draw or ribjasper_player_draw_all). This call allocates 65,056 bytes.
      player: the player
      file: the output, 65,045 bytes
    Returns RIBJASPER_DONE, or RIBJASPER_NO_MEMORY if malloc failed. It returns RIBJASPER_REFUSED if the player is closed,
@@ -419,9 +421,10 @@ typedef struct ribjasper_mark {
 } ribjasper_mark;
 
 /* Seeks in a stream of blocks: the player gets the same state as after ribjasper_player_begin and feeding the first N
-   blocks, where N is the parameter `to`. Marks are numbered from 0, and mark k is for the place (k + 1) * every. The call starts from the last
-   mark that is set and not after block `to`. If there is no such mark, it starts from the start of the stream. On the
-   way, it sets the marks. So if all marks up to a place are set, a seek to this place feeds fewer than `every` blocks.
+   blocks, where N is the parameter `to`. Marks are numbered from 0, and mark k is for the place (k + 1) * every (a
+   number of blocks). The call starts from the last mark that is set and not after block `to`. If there is no such mark,
+   it starts from the start of the stream. On the way, it sets the marks. So if all marks up to a place are set, a seek
+   to this place feeds fewer than `every` blocks.
      player: the player, which must be open
      form, lead_in: as in ribjasper_player_begin
      blocks, count: the blocks of the stream from its start, including the lead-in, 96 bytes each, and their number
@@ -449,11 +452,11 @@ int32_t ribjasper_player_seek_packs(ribjasper_player *player, const uint8_t *pac
    returns one of the following results. The memory of a player consists of tiles: each row of tiles is twelve pixels
    high, and each column is six pixels wide. The screen shows each tile moved left and up by the offsets. The outermost
    tiles of the screen are under the border. */
-#define RIBJASPER_TOUCHES_NOTHING 900
+#define RIBJASPER_TOUCHES_NOTHING 900 /* for example the idle pack */
 #define RIBJASPER_TOUCHES_ALL 901     /* the whole memory, and the offsets */
 #define RIBJASPER_TOUCHES_BORDER 902
-#define RIBJASPER_TOUCHES_COLOURS 903 /* colours of the colour table */
-#define RIBJASPER_TOUCHES_LEVELS 904
+#define RIBJASPER_TOUCHES_COLOURS 903 /* red, green and blue of eight colours */
+#define RIBJASPER_TOUCHES_LEVELS 904  /* the transparency levels of all colours */
 
 /* Reports what the instruction of a pack can change in any player. The instruction changes nothing else.
      pack: 24 bytes
@@ -500,10 +503,10 @@ typedef struct ribjasper_parity {
      parity: the output */
 void ribjasper_packs_parity(const uint8_t *packs, size_t count, ribjasper_parity *parity);
 
-/* Computes the parity of packs and writes it into the packs, so that a player of RIBJASPER_PACKS draws them. For given
-   symbols 0, 1 and 4 to 19, there is exactly one codeword. Each pack becomes this codeword. The upper two bits of each
-   byte become 0. A pack with valid parity keeps its symbols. Do not use this call for packs that have parity and may be
-   damaged: afterwards, a wrong symbol would count as a right one.
+/* Computes the parity of packs and writes it into the packs, so that a player with the form RIBJASPER_PACKS draws them.
+   For given symbols 0, 1 and 4 to 19, there is exactly one codeword. Each pack becomes this codeword. The upper two
+   bits of each byte become 0. A pack with valid parity keeps its symbols. Do not use this call for packs that have
+   parity and may be damaged: afterwards, a wrong symbol would count as a right one.
      packs: the packs, 24 bytes each, one after another; the call writes all of them
      count: the number of packs */
 void ribjasper_packs_seal(uint8_t *packs, size_t count);
@@ -522,12 +525,13 @@ void ribjasper_text_pack_symbols(const uint8_t pack[18], uint8_t symbols[24]);
 /* These are the kinds of a frame of the Q channel. Names in parentheses are fields of ribjasper_q_frame. */
 #define RIBJASPER_Q_PROGRAM 0   /* the position on the disc: track, index, time and absolute */
 #define RIBJASPER_Q_TRACK 1     /* table of contents: a track (track) and the start of its music (absolute) */
-#define RIBJASPER_Q_FIRST 2     /* the first track (track), the disc's type (disc): 0 CD-DA or CD-ROM, 16 CD-i, 32 XA */
-#define RIBJASPER_Q_LAST 3      /* the last track (track) */
-#define RIBJASPER_Q_LEAD_OUT 4  /* the start of the lead-out (absolute) */
-#define RIBJASPER_Q_CATALOGUE 5 /* the catalogue number: thirteen digits (text); frame */
-#define RIBJASPER_Q_ISRC 6      /* the recording code of the track: twelve characters (text); frame */
-#define RIBJASPER_Q_OTHER 7     /* any other frame: its ADR (mode), and its bytes 1 to 9 (text) */
+#define RIBJASPER_Q_FIRST 2     /* table of contents: the first track (track), and the disc's type (disc): 0 is CD-DA or
+                                   CD-ROM, 16 is CD-i, 32 is XA */
+#define RIBJASPER_Q_LAST 3      /* table of contents: the last track (track) */
+#define RIBJASPER_Q_LEAD_OUT 4  /* table of contents: the start of the lead-out (absolute) */
+#define RIBJASPER_Q_CATALOGUE 5 /* the catalogue number: thirteen digits (text), and 1/75 seconds of the time (frame) */
+#define RIBJASPER_Q_ISRC 6      /* the track's recording code: twelve characters (text); frame as for kind 5 */
+#define RIBJASPER_Q_OTHER 7     /* any other frame: its ADR (mode), and its bytes 1 to 9, counted from 0 (text) */
 
 /* This struct is a frame of the Q channel. All kinds use `control`, and the kinds 0 to 4 use `time`. The comment of each
    kind, above, names its further fields. ribjasper_q_decode writes zeros to all other fields, and ribjasper_q_encode
@@ -537,16 +541,16 @@ typedef struct ribjasper_q_frame {
     uint32_t time;     /* kind 0: the distance from the start of the music; kinds 1 to 4: the time in the lead-in */
     uint32_t absolute; /* the time from the start of program block 0 */
     uint8_t control;   /* 0 to 15: 8 four channels, 4 data, 2 copying permitted, 1 pre-emphasis */
-    uint8_t mode;      /* the field ADR, 0 to 15 */
-    uint8_t track;     /* 1 to 99 */
-    uint8_t index;     /* 0 to 99; 0 is the pause before the music of a track */
-    uint8_t disc;      /* any byte */
-    uint8_t frame;     /* 0 to 74, the frame of the absolute time */
-    uint8_t text[13];  /* ASCII characters, or unchanged bytes */
+    uint8_t mode;      /* the field ADR, 0 to 15: the four bits after CONTROL */
+    uint8_t track;     /* a track number, 1 to 99 */
+    uint8_t index;     /* an index number, 0 to 99; 0 is the pause before the music of a track */
+    uint8_t disc;      /* the type of the disc, any byte */
+    uint8_t frame;     /* the 1/75 seconds of the absolute time, 0 to 74 */
+    uint8_t text[13];  /* ASCII characters; kind 7: nine bytes of the frame, unchanged */
 } ribjasper_q_frame;
 
-#define RIBJASPER_BAD_CHECK 1
-#define RIBJASPER_BAD_FIELD 2
+#define RIBJASPER_BAD_CHECK 1 /* the CRC is wrong */
+#define RIBJASPER_BAD_FIELD 2 /* a field is out of range */
 
 /* Decodes the twelve bytes of a frame of the Q channel.
      bytes: the frame, 12 bytes
@@ -587,15 +591,15 @@ void ribjasper_blocks_from_planar(const uint8_t *planar, size_t count, uint8_t *
 
 /* A tally has detailed counts of the blocks that a player was fed. Initialize it with zeros. Each count saturates. */
 typedef struct ribjasper_tally {
-    uint64_t blocks;         /* blocks */
+    uint64_t blocks;         /* blocks, including the lead-in */
     uint64_t clean;          /* words without a wrong symbol */
     uint64_t one;            /* words with one wrong symbol, which was corrected */
     uint64_t two;            /* words with two wrong symbols, which were corrected */
     uint64_t bad;            /* words with no codeword near */
     uint64_t frames;         /* valid frames of the Q channel, at most one in each block; 0 for RIBJASPER_PACKS */
     uint64_t bad_frames;     /* bad Q frames: with a wrong CRC or an impossible value */
-    uint64_t frame_block;    /* the number of the block with the last valid frame, from 1; 0 if there is none */
-    ribjasper_q_frame frame; /* this frame, or zeros */
+    uint64_t frame_block;    /* the block with the last valid frame, counted from 1; 0 if there is none */
+    ribjasper_q_frame frame; /* this last valid frame, or zeros if there is none */
 } ribjasper_tally;
 
 /* Feeds an open player the next block, as ribjasper_player_feed does, and adds its words and its Q frame to a tally. If
@@ -619,7 +623,7 @@ typedef struct ribjasper_converted {
 
 /* These are the return values of calls on whole streams. They equal the exit statuses of the command ribjasper. */
 #define RIBJASPER_CONVERTED 0 /* done */
-#define RIBJASPER_DAMAGED 1   /* done, but some words have no codeword */
+#define RIBJASPER_DAMAGED 1   /* done, but some words could not be corrected */
 #define RIBJASPER_USAGE 2     /* a number is out of range, for example `lead_in` above 450,000 */
 #define RIBJASPER_TORN 3      /* the input is refused: a stream does not consist of whole blocks or sectors, or has
                                  more than 1,000,000 of them; or a line of a sheet has an error */
@@ -716,12 +720,13 @@ int32_t ribjasper_mend(const uint8_t *first, size_t first_length, const uint8_t 
 #define RIBJASPER_AGREED 254     /* instead of the number of a reading: two readings agree on the codeword */
 #define RIBJASPER_NO_READING 255 /* there is no codeword */
 
-/* This struct is the result of mending any number of readings. Readings are numbered from 0. Entries after the last
-   reading are 0. The sum of all numbers in `of_reading`, `agreed` and `none` is the number of words. */
+/* This struct is the result of mending any number of readings. Readings are numbered from 0. In `of_reading` and
+   `dropped`, entry k is for reading k; entries after the last reading are 0. The sum of all numbers in `of_reading`,
+   `agreed` and `none` is the number of words. */
 typedef struct ribjasper_mended_readings {
     uint64_t bytes;    /* bytes written to `packs` or `blocks`; the sources are not included */
     uint32_t blocks;   /* program blocks */
-    uint32_t agreed;   /* words whose codeword is an agreement of two readings */
+    uint32_t agreed;   /* words at which no codeword counts, but two readings agree on one */
     uint32_t none;     /* words without a codeword; `packs` has 24 zeros for each */
     uint32_t reserved; /* 0 */
     uint32_t of_reading[RIBJASPER_READINGS]; /* words whose codeword comes from this reading; if several readings have
@@ -752,10 +757,11 @@ int32_t ribjasper_mend_readings(const uint8_t *readings, size_t length, uint32_t
 /* Mends readings as ribjasper_mend_readings does, into a stream of blocks. The stream is as long as each reading,
    including the lead-in. The symbols of a mended word are those of its codeword.
 
-   All other symbols of a block come from one reading whose block is not unread. If the block is unread in all readings,
-   these symbols are 0. Of these readings, the call uses the one that agrees with the chosen codewords in the most
-   symbols of this block. If there is a tie, it uses the reading whose other symbols most readings have. If there is
-   still a tie, it uses the reading whose list of symbols is the greatest in lexicographic order.
+   All other symbols of a block (for example in the lead-in, and of words without a codeword) come from one reading
+   whose block is not unread. If the block is unread in all readings, these symbols are 0. If several readings have the
+   block, the call uses the one that agrees with the chosen codewords in the most symbols of this block. If there is a
+   tie, it uses the reading whose other symbols most readings have. If there is still a tie, it uses the reading whose
+   list of symbols is the greatest in lexicographic order.
 
    P and Q of a block come from one of the readings that have a good Q frame there. If no reading has one, P and Q come
    from one of the readings whose block is not unread. Of the lists of P and Q bits that these readings have for the
@@ -796,22 +802,22 @@ int32_t ribjasper_mend_stream_report(const uint8_t *readings, size_t length, uin
 /* This struct is a row of a plan. It describes one picture of a script. Times are numbers of program blocks, 75 a
    second, from the absolute time 00:00:00. Packs are numbered from 0. */
 typedef struct ribjasper_plan_row {
-    uint32_t line;  /* the line of the script with its `show`, from 1 */
+    uint32_t line;  /* the number of its `show` line in the script, counted from 1 */
     uint32_t ready; /* the ready time of the picture */
     uint32_t hold;  /* the hold time of the picture */
-    uint32_t need;  /* how many packs the change of the picture needs, at most 3,076 */
-    uint32_t free;  /* how many packs are free for the change */
-    uint32_t first; /* the first of these free packs */
+    uint32_t need;  /* how many packs change the previous picture into this one, at most 3,076 */
+    uint32_t free;  /* how many packs can be sent for this change by the ready time */
+    uint32_t first; /* the number of the first of these free packs */
     uint8_t late;   /* 1 if the change does not fit: first + need + 7 is above 4 * ready; otherwise 0 */
 } ribjasper_plan_row;
 
 /* This struct is the result of a plan. */
 typedef struct ribjasper_planned {
-    uint32_t pictures; /* pictures of the script */
-    uint32_t blocks;   /* program blocks of the disc */
+    uint32_t pictures; /* how many pictures the script has */
+    uint32_t blocks;   /* how many program blocks the disc has */
     uint32_t late;     /* how many pictures are late */
     uint32_t why;      /* why there is no plan: one of the reasons below, or 0 */
-    uint32_t line;     /* the refused line, from 1, or 0 */
+    uint32_t line;     /* the refused line of the sheet or the script, counted from 1; or 0 */
     uint32_t number;   /* the number that the reason below explains, or 0 */
 } ribjasper_planned;
 
@@ -824,21 +830,23 @@ typedef struct ribjasper_planned {
 #define RIBJASPER_SCRIPT_REFUSED 3  /* a line of the script is refused; the number is the reason: 1 unknown-command,
     2 bad-argument, 3 out-of-range, 4 time-order, 5 too-many */
 #define RIBJASPER_LENGTH_SHORT 4    /* the audio is too short; the number is how many blocks the index lines need */
-#define RIBJASPER_DISC_TOO_LONG 5   /* the disc is too long; the number is its program blocks */
-#define RIBJASPER_PAST_END 6        /* the last picture is held beyond the end; the number is the program blocks */
-#define RIBJASPER_CD_TEXT_TOO_LONG 7 /* the number is how many packs the CD-TEXT needs; at most 256 are allowed */
-#define RIBJASPER_LEAD_IN_SHORT 8   /* the lead-in is too short; the number is how many blocks it needs */
+#define RIBJASPER_DISC_TOO_LONG 5   /* the disc is too long; the number is its number of program blocks */
+#define RIBJASPER_PAST_END 6        /* the last picture is held beyond the end of the disc; the number is how many program
+    blocks the disc has */
+#define RIBJASPER_CD_TEXT_TOO_LONG 7 /* too much CD-TEXT; the number is how many packs it needs (above 256) */
+#define RIBJASPER_LEAD_IN_SHORT 8   /* the lead-in is too short; the number is how many blocks it must have */
 
 /* ribjasper_plan returns these answers, or RIBJASPER_USAGE, RIBJASPER_NO_ROOM or RIBJASPER_NO_MEMORY. */
 #define RIBJASPER_PLANNED 0     /* each picture is on time */
 #define RIBJASPER_NOT_PLANNED 3 /* `result` has the reason, and no row is written */
-#define RIBJASPER_LATE 4        /* pictures are late; their rows have `late` 1 */
+#define RIBJASPER_LATE 4        /* pictures are late; in their rows, `late` is 1 */
 
 /* Plans a disc from a cue sheet and a picture script, and writes one row for each picture. `late` is computed for each
-   picture as if all earlier pictures were on time. The command `ribjasper author` reports the first late picture.
+   picture as if all earlier pictures were on time. The command `ribjasper author` reports only the first late picture.
      sheet, sheet_length, script, script_length: the texts of the cue sheet and of the script, and their lengths in bytes
      lead_in: the number of lead-in blocks, at most 450,000
-     audio: the number of audio blocks, at most 449,999 (above 449,849, the disc is too long)
+     audio: the number of audio blocks, at most 449,999 (above 449,849, the disc is too long, since its pause has 150
+       blocks)
      rows, room: the output, and the number of rows that fit into it
      result: the counts, or the reason why there is no plan
    Returns RIBJASPER_PLANNED or RIBJASPER_LATE if the rows were written. Otherwise no row is written.
@@ -854,24 +862,24 @@ int32_t ribjasper_plan(const uint8_t *sheet, size_t sheet_length, const uint8_t 
 /* This struct is an index line of a cue sheet, with the data of its track. Times are numbers of blocks, 75 a second,
    below 450,000. */
 typedef struct ribjasper_sheet_row {
-    uint32_t time;    /* the time of the index in the file */
-    uint32_t pregap;  /* the silence before the track */
-    uint32_t postgap; /* the silence after the track */
+    uint32_t time;    /* the time of the index in the audio file */
+    uint32_t pregap;  /* the silence at the beginning of the track (PREGAP) */
+    uint32_t postgap; /* the silence at the end of the track (POSTGAP) */
     uint8_t track;    /* the number of the track, 1 to 99 */
     uint8_t index;    /* the number of the index, 0 to 99 */
     uint8_t control;  /* flags of the track: 8 four channels, 2 copying permitted, 1 pre-emphasis */
-    uint8_t has_isrc; /* 1 if the track has an ISRC, or 0 */
-    uint8_t isrc[12]; /* the ISRC, or zeros */
+    uint8_t has_isrc; /* 1 if the track has a recording code (ISRC), otherwise 0 */
+    uint8_t isrc[12]; /* the ISRC in ASCII, or zeros */
 } ribjasper_sheet_row;
 
 /* This struct is the result of reading a cue sheet. If the sheet is refused, all fields except `line` and `why` are 0.
    */
 typedef struct ribjasper_sheet_result {
-    uint32_t rows;         /* index lines, at most 9,900 */
-    uint32_t tracks;       /* tracks, 1 to 99 */
+    uint32_t rows;         /* the number of index lines, at most 9,900 */
+    uint32_t tracks;       /* the number of tracks, 1 to 99 */
     uint32_t line;         /* the first refused line, from 1 (at the end of the sheet: the last line plus 1), or 0 */
     uint32_t why;          /* the reason, a number listed at RIBJASPER_SHEET_REFUSED, or 0 */
-    uint8_t has_catalogue; /* 1 if the sheet has a catalogue number, or 0 */
+    uint8_t has_catalogue; /* 1 if the sheet has a catalogue number, otherwise 0 */
     uint8_t catalogue[13]; /* the digits of this number in ASCII, or zeros */
 } ribjasper_sheet_result;
 #define ribjasper_sheet_told ribjasper_sheet_result /* the name before version 1.13 */
@@ -921,7 +929,7 @@ RIBJASPER_NODISCARD int32_t ribjasper_sheet_text(const uint8_t *sheet, size_t le
    RIBJASPER_PACKS, they are the four words of the block. In a lead-in block, there are none. The sums over all rows are
    the numbers clean, one, two, bad, q-good and q-bad of the command `ribjasper check`. */
 typedef struct ribjasper_row {
-    uint32_t absolute; /* the absolute time in blocks, if the frame is of kind 0; otherwise RIBJASPER_NO_TIME */
+    uint32_t absolute; /* in blocks, if the frame is of kind 0 (RIBJASPER_Q_PROGRAM); otherwise RIBJASPER_NO_TIME */
     uint8_t clean;     /* words without a wrong symbol */
     uint8_t one;       /* words with one wrong symbol */
     uint8_t two;       /* words with two wrong symbols */
@@ -929,13 +937,13 @@ typedef struct ribjasper_row {
     uint8_t q;         /* the kind of the frame, or one of the three numbers above */
     uint8_t track;     /* the track, if the frame is of kind 0 to 3; otherwise 0 */
     uint8_t index;     /* the index, if the frame is of kind 0; otherwise 0 */
-    uint8_t empty;     /* 1 if all 96 bytes are zero, or 0 */
+    uint8_t empty;     /* 1 if all 96 bytes of the block are zero, otherwise 0 */
 } ribjasper_row;
 
 /* This struct is the result of a survey. */
 typedef struct ribjasper_surveyed {
-    uint32_t blocks; /* whole blocks, lead-in included */
-    uint32_t rest;   /* bytes after the last whole block, 0 if the stream ends with a whole block */
+    uint32_t blocks; /* the number of whole blocks, including the lead-in */
+    uint32_t rest;   /* the number of bytes after the last whole block, 0 if the stream ends with it */
 } ribjasper_surveyed;
 
 /* Surveys a stream: writes one row for each whole block.
@@ -958,17 +966,18 @@ int32_t ribjasper_survey(const uint8_t *stream, size_t length, uint32_t form, ui
      packs: the output, 72 bytes */
 void ribjasper_block_text_packs(const uint8_t block[RIBJASPER_BLOCK], uint8_t packs[72]);
 
-/* This struct is the result of listing texts. Each answer uses some of these numbers; the others are 0. */
+/* This struct is the result of listing texts. Each answer uses some of these numbers, as their comments say; the others
+   are 0. */
 typedef struct ribjasper_listed {
-    uint64_t bytes; /* bytes written, if the texts are not refused */
-    uint32_t seq;   /* the number of the missing or invalid pack, 0 to 255 */
+    uint64_t bytes; /* the number of bytes written, if the texts are not refused */
+    uint32_t seq;   /* the sequence number (third byte) of the missing or invalid CD-TEXT pack, 0 to 255 */
     uint32_t byte;  /* the number of the invalid byte in this pack */
 } ribjasper_listed;
 
 /* These answers say why the texts of a lead-in are refused. */
-#define RIBJASPER_TEXT_MISSING 8    /* pack `seq` is missing */
-#define RIBJASPER_TEXT_NO_SIZE 9    /* one of the three packs with the sizes is missing */
-#define RIBJASPER_TEXT_MALFORMED 10 /* byte `byte` of pack `seq` is invalid */
+#define RIBJASPER_TEXT_MISSING 8    /* the pack with the sequence number `seq` is missing */
+#define RIBJASPER_TEXT_NO_SIZE 9    /* one of the three packs with the sizes (type 8F) is missing */
+#define RIBJASPER_TEXT_MALFORMED 10 /* byte `byte` of the pack with the sequence number `seq` is invalid */
 
 /* Lists the texts of a lead-in. The output has the same lines as that of the command `ribjasper text`.
      stream, length: the stream, and its length in bytes
