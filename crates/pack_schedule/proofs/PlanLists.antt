@@ -1,5 +1,5 @@
 -- The lists that make up a planned change.
-use Rattle.std.proofs.Common.{◌≡◌, ℕ, zero, suc, ◌+◌, ◌-◌, ◌/◌, ◌%◌, ◌<◌, ◌⊎◌, inl, inr, Bool, true, false, List, [], ◌∷◌, ◌++◌, map, All, replicate, refl, ap, ap₂, sym, subst, ◌∙◌, arith, append_assoc, append-nil}
+use Rattle.std.proofs.Common.{◌≡◌, ℕ, zero, suc, ◌+◌, ◌-◌, ◌/◌, ◌%◌, ◌<◌, ◌≤◌, ◌⊎◌, inl, inr, Bool, true, false, List, [], ◌∷◌, ◌++◌, map, length, length-append, All, replicate, refl, ap, ap₂, sym, subst, ◌∙◌, arith, append_assoc, append-nil}
 use Rattle.std.specs.Prelude.{Option, Some, None, MatchOption, IsSome, flat_map, ◌==◌, if◌then◌else◌, not, slice_index}
 use Rattle.std.specs.Bool.{Decides}
 use Rattle.std.specs.Str.{bytes_eq}
@@ -165,6 +165,14 @@ pub reported_same : (reported : Bool) (xs ys zs : List ℕ) → reported ≡ not
     → zs ≡ ys
 reported_same reported xs ys zs is at is_false =
     sym at ∙ (bytes_eq-Decides xs ys).0 (not_false (bytes_eq xs ys) (sym is ∙ is_false))
+
+-- one instruction more, or none
+pub pushed_few : (n : ℕ) (instr : Instr) (old new : List Instr) → length old ≤ n → new ≡ old ++ instr ∷ []
+    → length new ≤ n + 1
+pushed_few n instr old new few is = omega (arith, few, ap length is, length-append old (instr ∷ []))
+
+pub kept_few : (n : ℕ) (old new : List Instr) → length old ≤ n → new ≡ old → length new ≤ n + 1
+kept_few n old new few is = omega (arith, few, ap length is)
 
 -- the settings one after another
 pub all_appended : (script : List Drawing) (k : ℕ) (old new : Board) (border : ℕ) (low high : List ℕ)

@@ -1,10 +1,10 @@
-use Rattle.std.proofs.Common.{◌≡◌, ◌+◌, ◌∙◌, List, ℕ, map, length, length-append, inl, inr, refl, ap, sym, arith}
+use Rattle.std.proofs.Common.{◌≡◌, ◌≤◌, ◌+◌, ◌∙◌, List, ℕ, map, length, length-append, inl, inr, refl, ap, sym, arith}
 use Rattle.std.specs.Prelude.{slice_index}
 use Rattle.bit_lists.specs.Counting.{below}
 use Rattle.cdg_instructions.specs.declared.instr.Instr.TheVariants.{BorderPreset, ColoursLow, ColoursHigh}
 use Rattle.picture_script.specs.Board.{Board}
 use Rattle.pack_schedule.specs.Change.{settings}
-use Rattle.pack_schedule.proofs.PlanLists.{IsAppended, all_appended, reported_other, reported_same}
+use Rattle.pack_schedule.proofs.PlanLists.{IsAppended, all_appended, kept_few, pushed_few, reported_other, reported_same}
 use Rattle.pack_schedule.proofs.Short.{settings_few}
 use Rattle.pack_schedule.proofs.change.ChangeList.push_settings.Goals as goal
 use Rattle.pack_schedule.proofs.change.ChangeList.push_settings.Goals.{then-k-eq0, then-k-eq0-via-then-k-eq0, then-k-eq0-via-else-k-eq0+then-border, else-k-eq0+else-border, then-k-eq0-2, then-k-eq0-2-via-then-k-eq0-2, then-k-eq0-2-via-else-k-eq0-2+then-ne, else-k-eq0-2+else-ne, then-k-eq0-3-via-then-k-eq0-3, then-k-eq0-3-via-else-k-eq0-3+then-ne-2}
@@ -134,3 +134,31 @@ returns-else-ne-2-clause-few c =
       ap length (returns-else-ne-2-clause-whole c),
       length-append c.args.self.now (settings c.args.script.now c.args.k),
     )
+
+pub push-requires-then-k-eq0-2 : goal.push-requires-then-k-eq0-2
+push-requires-then-k-eq0-2 c =
+    let first : length c.if-k-eq0.self ≤ 2 = elim c.if-k-eq0.branch [
+      | then-k-eq0 w ↦
+          pushed_few 1 (BorderPreset c.border-border.result) c.args.self.now c.if-k-eq0.self c.requires.few
+          (w.self-is ∙ w.push.ensures)
+      | else-k-eq0+else-border w ↦
+          kept_few 1 c.args.self.now c.if-k-eq0.self c.requires.few w.self-is
+    ] in
+    omega (arith, first)
+
+pub push-requires-then-k-eq0-3 : goal.push-requires-then-k-eq0-3
+push-requires-then-k-eq0-3 c =
+    let first : length c.if-k-eq0.self ≤ 2 = elim c.if-k-eq0.branch [
+      | then-k-eq0 w ↦
+          pushed_few 1 (BorderPreset c.border-border.result) c.args.self.now c.if-k-eq0.self c.requires.few
+          (w.self-is ∙ w.push.ensures)
+      | else-k-eq0+else-border w ↦
+          kept_few 1 c.args.self.now c.if-k-eq0.self c.requires.few w.self-is
+    ] in
+    let second : length c.if-k-eq0-2.self ≤ 3 = elim c.if-k-eq0-2.branch [
+      | then-k-eq0-2 w ↦
+          pushed_few 2 (ColoursLow c.colours-low.result) c.if-k-eq0.self c.if-k-eq0-2.self first
+          (w.self-is ∙ w.push-then-k-eq0-2.ensures)
+      | else-k-eq0-2+else-ne w ↦ kept_few 2 c.if-k-eq0.self c.if-k-eq0-2.self first w.self-is
+    ] in
+    omega (arith, second)
