@@ -4,6 +4,9 @@ use Rattle.std.specs.Prelude.{Option, Some, None, MatchOption, nat_le, Result, O
 use Rattle.std.proofs.lemmas.Bool.{cases_lt}
 use Rattle.std.proofs.lemmas.Bool.Decides.{leb_tells}
 use Rattle.std.proofs.lemmas.List.{get_or_append_left, get_or-append-add}
+use Rattle.disc_time.specs.Counts.{time_count}
+use Rattle.raw_subcode.specs.Sizes.{slots_a_block}
+use Rattle.rw_interleave.specs.Interleave.{whole_packs}
 use Rattle.picture_script.specs.Script.{Drawing, pictures, ready_time, hold_time, picture_pixel}
 use Rattle.picture_script.specs.Board.{Board, IsBlank, IsPicture, StandsBefore}
 use Rattle.pack_schedule.specs.Schedule.{start_of, IsInTime, IsLate, free_packs}
@@ -186,6 +189,23 @@ is_within script blocks order end k lt = elim (cases_lt blocks (hold_time script
   | inr le ↦ omega
       (arith, hold_order script order k (pictures script - 1) (omega (arith, lt)) (omega (arith, lt)), le)
 ]
+
+-- the first pack of a picture's change
+pub first_start : (script : List Drawing) (k : ℕ) → k ≡ 0 → 0 ≡ start_of script k
+first_start script zero is = refl
+first_start script (suc k) is = absurd (omega (arith, is))
+
+pub later_start : (script : List Drawing) (k start hold : ℕ) → ¬ (k ≡ 0) → start ≡ whole_packs hold
+    → hold ≡ hold_time script (k - 1)
+    → start ≡ start_of script k
+later_start script zero start hold later is held = absurd (later refl)
+later_start script (suc k) start hold later is held =
+    let before : suc k - 1 ≡ k = omega arith in
+    is ∙ ap whole_packs (held ∙ ap (hold_time script) before)
+
+pub start_below : (start hold : ℕ) → start ≡ whole_packs hold → hold < time_count
+    → start < slots_a_block * time_count
+start_below start hold is below = omega (arith, is, below)
 
 pub not_in_time : (script : List Drawing) (k start need : ℕ) → start ≡ start_of script k
     → nat_le (start + need + 7) (4 * ready_time script k) ≡ false → IsInTime script k need
