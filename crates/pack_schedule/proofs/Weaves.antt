@@ -2,6 +2,7 @@
 use Rattle.std.proofs.Common.{◌≡◌, ◌≢◌, ℕ, suc, ◌+◌, ◌-◌, ◌*◌, ◌<◌, ◌≤◌, List, [], length, get_or, All, ap, refl, sym, subst, ◌∙◌, inl, inr, arith}
 use Rattle.std.specs.Prelude.{Option, replicate, slice_index}
 use Rattle.std.proofs.lemmas.Bool.{cases_lt}
+use Rattle.std.proofs.lemmas.List.{nil_from_length}
 use Rattle.std.proofs.lemmas.List.Elements.{All-get_or}
 use Rattle.cdg_instructions.specs.Instruction.{InRange, IsKnown, IsWritten, message_of, written_symbols}
 use Rattle.cdg_instructions.specs.declared.instr.Instr.{Instr}
@@ -38,6 +39,13 @@ pub change_planned : (script : List Drawing) (survey : List PlannedChange) (k : 
 unfolding planned_change
 change_planned script survey k preset change h lt is made =
     made ∙ ap (planned_from script k) (is ∙ (h.each k lt).preset_is)
+
+-- a planned change of no packs is empty
+pub change_empty : (script : List Drawing) (survey : List PlannedChange) (k need : ℕ) (change : List Instr)
+    → IsSurvey script survey → k < pictures script → need ≡ (get_or survey k nothing_planned).need → need ≡ 0
+    → change ≡ [] → change ≡ planned_change script k
+change_empty script survey k need change h lt is zero empty =
+    empty ∙ sym (nil_from_length (planned_change script k) (sym (h.each k lt).need_is ∙ sym is ∙ zero))
 
 -- the current change is the change of the first picture, if there is one
 pub first_weaves : (script : List Drawing) (at_hand : ChangeAtHand) → IsSurvey script at_hand.survey
