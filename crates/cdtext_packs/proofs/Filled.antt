@@ -1,13 +1,16 @@
 -- The number of packs of some texts.
-use Rattle.std.proofs.Common.{◌≡◌, ℕ, ◌+◌, ◌<◌, Bool, true, if◌then◌else◌, List, [], ◌∷◌, ◌++◌, length, flat_map, take, inl, inr, refl, sym, ap, ◌∙◌, arith}
+use Rattle.std.proofs.Common.{◌≡◌, ℕ, ◌+◌, ◌<◌, ◌≤◌, Bool, true, if◌then◌else◌, List, [], ◌∷◌, ◌++◌, length, get_or, flat_map, take, inl, inr, Result, Ok, Err, MatchResult, refl, sym, ap, ◌∙◌, subst, arith}
 use Rattle.std.specs.List.{list_all}
+use Rattle.std.specs.Result.{IsErrAnd}
 use Rattle.std.proofs.lemmas.Bool.{cases_Bool, and_from, and_parts}
 use Rattle.std.proofs.lemmas.List.{length-append}
 use Rattle.cdtext_packs.specs.Texts.{Texts, kinds, strings_of, are_empty, has_no_text}
-use Rattle.cdtext_packs.specs.Writing.{pack_count, kind_contents, size_contents, contents}
+use Rattle.cdtext_packs.specs.Writing.{pack_count, kind_contents, size_contents, contents, IsPackStop}
 use Rattle.cdtext_packs.specs.declared.kinds.TextKind.{TextKind}
+use Rattle.cdtext_packs.specs.declared.kinds.PackStop.{PackStop}
+use Rattle.cdtext_packs.specs.declared.kinds.PackStop.TheVariants.{NoMemory}
 use Rattle.cdtext_packs.proofs.Cutting.{joined_some}
-use Rattle.cdtext_packs.proofs.Numbered.{length-kind_contents, pack_count-empty, pack_count-full}
+use Rattle.cdtext_packs.proofs.Numbered.{flat_map-kinds_more, length-kind_contents, pack_count-empty, pack_count-full}
 
 empty_from_none : (strings : List (List ℕ)) → pack_count strings ≡ 0 → are_empty strings ≡ true
 empty_from_none strings none = elim (cases_Bool (are_empty strings)) [
@@ -66,3 +69,21 @@ some_counted texts count is some = elim (cases_Bool (has_no_text texts)) [
       let whole = length-append (flat_map (kind_contents texts) kinds) (size_contents texts) in
       omega arith
 ]
+
+-- one more kind is counted
+pub count_more : (texts : Texts) (count more i : ℕ) (d : TextKind) → i < 7
+    → count ≡ length (flat_map (kind_contents texts) (take i kinds))
+    → more ≡ length (kind_contents texts (get_or kinds i d))
+    → count + more ≡ length (flat_map (kind_contents texts) (take (i + 1) kinds))
+count_more texts count more i d below is next =
+    ap (λ (n : ℕ). n + more) is
+    ∙ ap (λ (n : ℕ). length (flat_map (kind_contents texts) (take i kinds)) + n) next
+    ∙ sym (ap length (flat_map-kinds_more (kind_contents texts) i d below)
+    ∙ length-append (flat_map (kind_contents texts) (take i kinds)) (kind_contents texts (get_or kinds i d)))
+
+-- memory ran out, and the packs are few enough
+pub no_memory : {T : Type 0} (texts : Texts) (P : T → Type 0) (r : Result T PackStop)
+    → IsErrAnd r (λ stop. stop ≡ NoMemory) → length (contents texts) ≤ 256
+    → MatchResult r P (IsPackStop texts)
+no_memory texts P (Ok x) stops few = absurd stops
+no_memory texts P (Err stop) stops few = subst (IsPackStop texts) (sym stops) few

@@ -1,6 +1,6 @@
-use Rattle.std.proofs.Common.{◌≡◌, length, ap, ◌∙◌, arith, rules}
+use Rattle.std.proofs.Common.{◌≡◌, length, refl, ap, ◌∙◌, arith, rules}
 use Rattle.cdtext_packs.specs.Writing.{contents, packs_of}
-use Rattle.cdtext_packs.proofs.Filled.{all_counted, none_counted, some_counted}
+use Rattle.cdtext_packs.proofs.Filled.{all_counted, count_more, no_memory, none_counted, some_counted}
 use Rattle.cdtext_packs.proofs.Numbered.{kind_fits, kinds_more, kinds_counted, packs_done, packs_none, length-numbered}
 use Rattle.cdtext_packs.proofs.pack.pack_all.Goals as goal
 
@@ -60,3 +60,43 @@ returns c =
     (omega arith) c.loop-kind-2.invariant c.in_ok-push_sizes.ensures in
     let size = ap length is ∙ length-numbered 0 (contents map) in
     (is, omega arith)
+
+pub loop-kind-init : goal.loop-kind-init
+loop-kind-init c = record { count = refl; bound = omega arith }
+
+pub loop-kind-preserved : goal.loop-kind-preserved
+loop-kind-preserved c = record {
+  count =
+      count_more c.args.map.now c.loop-kind.packs c.kind_packs-packs.result c.loop-kind.kind-index _
+      c.loop-kind-test.true c.loop-kind.invariant.count c.kind_packs-packs.ensures.value;
+  bound = omega arith;
+}
+
+pub loop-kind-2-init : goal.loop-kind-2-init
+loop-kind-2-init c = c.in_ok-all.ensures.items
+
+pub returns-in_err-all : goal.returns-in_err-all
+returns-in_err-all c =
+    let map = c.args.map.now in
+    let counted =
+    all_counted map c.loop-kind.packs c.loop-kind.kind-index (omega arith) c.loop-kind.invariant.count in
+    let whole = some_counted map c.loop-kind.packs counted (omega arith) in
+    no_memory map _ c.from_residual.result c.from_residual.ensures.1 (omega arith)
+
+pub returns-in_err-push_kind : goal.returns-in_err-push_kind
+returns-in_err-push_kind c =
+    let map = c.args.map.now in
+    let counted =
+    all_counted map c.loop-kind.packs c.loop-kind.kind-index (omega arith) c.loop-kind.invariant.count in
+    let whole = some_counted map c.loop-kind.packs counted (omega arith) in
+    no_memory map _ c.from_residual-in_err-push_kind.result c.from_residual-in_err-push_kind.ensures.1
+    (omega arith)
+
+pub returns-in_err-push_sizes : goal.returns-in_err-push_sizes
+returns-in_err-push_sizes c =
+    let map = c.args.map.now in
+    let counted =
+    all_counted map c.loop-kind.packs c.loop-kind.kind-index (omega arith) c.loop-kind.invariant.count in
+    let whole = some_counted map c.loop-kind.packs counted (omega arith) in
+    no_memory map _ c.from_residual-in_err-push_sizes.result c.from_residual-in_err-push_sizes.ensures.1
+    (omega arith)
