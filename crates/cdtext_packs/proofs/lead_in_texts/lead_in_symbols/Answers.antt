@@ -1,6 +1,8 @@
-use Rattle.std.proofs.Common.{◌≡◌, ◌≢◌, ◌+◌, ◌*◌, ◌%◌, ◌<◌, ℕ, [], length, take, All, refl, sym, ap, ◌∙◌, subst, rules, slice_index_or}
+use Rattle.std.proofs.Common.{◌≡◌, ◌≢◌, ◌+◌, ◌*◌, ◌%◌, ◌<◌, ℕ, [], length, take, All, refl, sym, ap, ◌∙◌, subst, rules, arith, slice_index_or, Bool, false, ◌==◌, List}
 use Rattle.std.proofs.lemmas.List.{get_or_read_under}
-use Rattle.std.proofs.lemmas.List.Elements.{All-append}
+use Rattle.std.proofs.lemmas.List.Elements.{All-append, All-replicate}
+use Rattle.std.proofs.lemmas.Bool.{eqb-false}
+use Rattle.std.proofs.Math.Nat.{mod-lt}
 use Rattle.cdtext_packs.specs.LeadIn.{lead_in_slot, pack_symbols}
 use Rattle.cdtext_packs.proofs.Slots.{none_symbols, some_slot, slots_more, slot_written, length-written}
 use Rattle.cdtext_packs.proofs.lead_in_texts.lead_in_symbols.Goals as goal
@@ -36,3 +38,24 @@ loop-k-preserved c =
           subst (All (λ s. s < 64)) (sym written) (All-append (λ s. s < 64) before slot
           c.loop-k.invariant.bound c.text_symbols.ensures.bound);
     }
+
+pub returns-then-is_empty-clause-bound : goal.returns-then-is_empty-clause-bound
+returns-then-is_empty-clause-bound c = All-replicate (λ s. s < 64) 96 0 (omega arith)
+
+pub loop-k-init : goal.loop-k-init
+loop-k-init c = record { size = refl; slots = refl; bound = λ i d inside. absurd (omega arith) }
+
+-- there are packs
+some : (packs : List (List ℕ)) (empty : Bool) → empty ≡ false → empty ≡ (length packs == 0)
+    → 0 < length packs
+some packs empty full is =
+    let none : length packs ≢ 0 = eqb-false (length packs) 0 (sym is ∙ full) in
+    omega arith
+
+pub nonzero_rem-pack : goal.nonzero_rem-pack
+nonzero_rem-pack c = some c.args.packs.now c.is_empty.result c.if-is_empty.false c.is_empty.ensures
+
+pub bounds-packs-l : goal.bounds-packs-l
+bounds-packs-l c =
+    mod-lt (4 * c.args.l + c.loop-k.k) (some c.args.packs.now c.is_empty.result c.if-is_empty.false
+    c.is_empty.ensures)
