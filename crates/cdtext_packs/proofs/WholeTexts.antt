@@ -1,7 +1,10 @@
 -- Texts with a string of each kind for the album and each track.
-use Rattle.std.proofs.Common.{◌≡◌, ℕ, zero, suc, ◌+◌, ◌-◌, ◌≤◌, Bool, true, if◌then◌else◌, List, [], length, replicate, Option, All, inl, inr, refl, sym, ap, subst, ◌∙◌, arith}
-use Rattle.std.proofs.lemmas.Bool.{and_from}
-use Rattle.cdtext_packs.specs.Texts.{Texts, IsString, AreTexts, no_texts, texts_with, unless_empty, strings_of, are_empty, has_no_text}
+use Rattle.std.proofs.Common.{◌≡◌, ℕ, zero, suc, ◌+◌, ◌-◌, ◌<◌, ◌≤◌, Bool, true, false, if◌then◌else◌, List, [], length, get_or, replicate, Option, All, inl, inr, refl, sym, ap, subst, ◌∙◌, arith}
+use Rattle.std.proofs.lemmas.Bool.{and_from, cond-false}
+use Rattle.std.proofs.lemmas.List.{length-replicate}
+use Rattle.std.proofs.lemmas.List.Elements.{All-replicate}
+use Rattle.std.proofs.lemmas.List.Folds.{list_all_at}
+use Rattle.cdtext_packs.specs.Texts.{Texts, kinds, IsString, AreTexts, no_texts, texts_with, unless_empty, strings_of, are_empty, has_no_text}
 use Rattle.cdtext_packs.specs.Reading.{kind_texts, all_texts}
 use Rattle.cdtext_packs.specs.declared.kinds.TextKind.{TextKind}
 use Rattle.cdtext_packs.specs.declared.kinds.TextKind.TheVariants as kind
@@ -39,6 +42,43 @@ has_tracks texts n some first last limit c0 c1 c2 c3 c4 c5 c6 s0 s1 s2 s3 s4 s5 
   ];
 })
 
+none_are_strings : (n : ℕ) → All IsString (replicate n [])
+none_are_strings n = All-replicate IsString n [] (record {
+  size = omega arith;
+  nonzero = λ i d inside. absurd (omega arith);
+})
+
+-- the strings of a sheet, and empty strings of the other kinds
+pub strings_with : (first n last : ℕ)
+    (title performer songwriter composer arranger message code : List (List ℕ))
+    → 1 ≤ first → 2 ≤ length title → first + length title ≤ 101 → n ≡ length title
+    → length performer ≡ length title → length songwriter ≡ length title → length code ≡ length title
+    → composer ≡ replicate n [] → arranger ≡ replicate n [] → message ≡ replicate n []
+    → last ≡ first + (n - 2)
+    → All IsString title → All IsString performer → All IsString songwriter → All IsString code
+    → AreTexts (record {
+      first = first;
+      last = last;
+      title = title;
+      performer = performer;
+      songwriter = songwriter;
+      composer = composer;
+      arranger = arranger;
+      message = message;
+      code = code;
+    })
+strings_with first n last title performer songwriter composer arranger message code least some most size p s c
+    e3
+    e4 e5 end s0 s1 s2 s6 =
+    let none : (xs : List (List ℕ)) → xs ≡ replicate n [] → length xs ≡ n - 1 + 1 =
+    λ xs is. ap length is ∙ length-replicate n [] ∙ omega arith in
+    let strings : (xs : List (List ℕ)) → xs ≡ replicate n [] → All IsString xs =
+    λ xs is. subst (All IsString) (sym is) (none_are_strings n) in
+    has_tracks _ (n - 1) (omega arith) least (omega arith) (omega arith) (omega arith) (omega arith)
+    (omega arith)
+    (none composer e3) (none arranger e4) (none message e5) (omega arith) s0 s1 s2 (strings composer e3)
+    (strings arranger e4) (strings message e5) s6
+
 same_strings : (first last : ℕ) {a b c d e f g a' b' c' d' e' f' g' : List (List ℕ)} → a ≡ a' → b ≡ b'
     → c ≡ c' → d ≡ d' → e ≡ e' → f ≡ f' → g ≡ g'
     → ◌≡◌ {A = Texts} (record {
@@ -65,19 +105,55 @@ same_strings : (first last : ℕ) {a b c d e f g a' b' c' d' e' f' g' : List (Li
     })
 same_strings first last a b c d e f g = cc
 
+-- the strings of a kind, one for the album and each track
+pub record AreTextsOf (kept : List (Option (List ℕ))) (n : ℕ) (kind : TextKind) (strings : List (List ℕ))
+    : Type 0 where
+  pub texts : strings ≡ kind_texts kept n kind
+  pub size : length strings ≡ n
+  pub each : All IsString strings
+
+-- texts with these strings of each kind
+pub record AreAllTexts (kept : List (Option (List ℕ))) (n : ℕ) (texts : Texts) : Type 0 where
+  pub title : AreTextsOf kept n kind.Title texts.title
+  pub performer : AreTextsOf kept n kind.Performer texts.performer
+  pub songwriter : AreTextsOf kept n kind.Songwriter texts.songwriter
+  pub composer : AreTextsOf kept n kind.Composer texts.composer
+  pub arranger : AreTextsOf kept n kind.Arranger texts.arranger
+  pub message : AreTextsOf kept n kind.Message texts.message
+  pub code : AreTextsOf kept n kind.Code texts.code
+
+all_texts_at : (kept : List (Option (List ℕ))) (n : ℕ) (texts : Texts) → AreAllTexts kept n texts
+    → (k : TextKind) → AreTextsOf kept n k (strings_of k texts)
+all_texts_at kept n texts are kind.Title = are.title
+all_texts_at kept n texts are kind.Performer = are.performer
+all_texts_at kept n texts are kind.Songwriter = are.songwriter
+all_texts_at kept n texts are kind.Composer = are.composer
+all_texts_at kept n texts are kind.Arranger = are.arranger
+all_texts_at kept n texts are kind.Message = are.message
+all_texts_at kept n texts are kind.Code = are.code
+
+pub tracks_of_kinds : (kept : List (Option (List ℕ))) (n : ℕ) (texts : Texts) → n ≡ texts.last - texts.first
+    → 1 ≤ texts.first → texts.first ≤ texts.last → texts.last ≤ 99 → AreAllTexts kept (n + 2) texts
+    → AreTexts texts
+tracks_of_kinds kept n texts size first last limit are =
+    let each = all_texts_at kept (n + 2) texts are in
+    inr (record {
+      first = first;
+      last = last;
+      limit = limit;
+      count = λ k. (each k).size ∙ ap (λ (m : ℕ). m + 2) size;
+      strings = λ k. (each k).each;
+    })
+
 -- the texts of kept packs, from the strings of each kind
 pub texts_of_kinds : (kept : List (Option (List ℕ))) (n : ℕ) (texts : Texts) → n ≡ texts.last - texts.first
-    → texts.title ≡ kind_texts kept (n + 2) kind.Title
-    → texts.performer ≡ kind_texts kept (n + 2) kind.Performer
-    → texts.songwriter ≡ kind_texts kept (n + 2) kind.Songwriter
-    → texts.composer ≡ kind_texts kept (n + 2) kind.Composer
-    → texts.arranger ≡ kind_texts kept (n + 2) kind.Arranger
-    → texts.message ≡ kind_texts kept (n + 2) kind.Message → texts.code ≡ kind_texts kept (n + 2) kind.Code
+    → AreAllTexts kept (n + 2) texts
     → texts ≡ all_texts kept texts.first texts.last
-texts_of_kinds kept n texts size t0 t1 t2 t3 t4 t5 t6 =
-    same_strings texts.first texts.last (t0 ∙ same kind.Title) (t1 ∙ same kind.Performer)
-    (t2 ∙ same kind.Songwriter) (t3 ∙ same kind.Composer) (t4 ∙ same kind.Arranger) (t5 ∙ same kind.Message)
-    (t6 ∙ same kind.Code)
+texts_of_kinds kept n texts size are =
+    same_strings texts.first texts.last (are.title.texts ∙ same kind.Title)
+    (are.performer.texts ∙ same kind.Performer) (are.songwriter.texts ∙ same kind.Songwriter)
+    (are.composer.texts ∙ same kind.Composer) (are.arranger.texts ∙ same kind.Arranger)
+    (are.message.texts ∙ same kind.Message) (are.code.texts ∙ same kind.Code)
   where
     same : (k : TextKind) → kind_texts kept (n + 2) k ≡ kind_texts kept (texts.last - texts.first + 2) k
     same k = ap (λ (m : ℕ). kind_texts kept (m + 2) k) size
@@ -96,6 +172,39 @@ none_with first title performer songwriter code t p s c =
     and_from _ _ t (and_from _ _ p (and_from _ _ s (and_from _ _ none (and_from _ _ none (and_from _ _ none
     (and_from _ _ c refl)))))) in
     ap (λ (b : Bool). if b then no_texts else texts_with first title performer songwriter code) all
+
+-- there is text if one of the kinds has a string that is not empty
+pub some_text : (texts : Texts) (i : ℕ) → i < 7
+    → are_empty (strings_of (get_or kinds i kind.Title) texts) ≡ false
+    → has_no_text texts ≡ false
+some_text texts i inside some =
+    list_all_at (λ kind. are_empty (strings_of kind texts)) kinds i kind.Title inside some
+
+pub texts_not_empty : (first n last : ℕ)
+    (title performer songwriter composer arranger message code : List (List ℕ))
+    → n ≡ length title → last ≡ first + (n - 2)
+    → composer ≡ replicate n [] → arranger ≡ replicate n [] → message ≡ replicate n []
+    → has_no_text (texts_with first title performer songwriter code) ≡ false
+    → ◌≡◌ {A = Texts} (record {
+      first = first;
+      last = last;
+      title = title;
+      performer = performer;
+      songwriter = songwriter;
+      composer = composer;
+      arranger = arranger;
+      message = message;
+      code = code;
+    })
+    (unless_empty (texts_with first title performer songwriter code))
+texts_not_empty first n last title performer songwriter composer arranger message code size end e3 e4 e5
+    some =
+    let none : replicate n [] ≡ replicate (length title) [] = ap (λ (k : ℕ). replicate k []) size in
+    let whole = texts_with first title performer songwriter code in
+    same_strings first last {a = title} {b = performer} {c = songwriter} {g = code} refl refl refl (e3 ∙ none)
+    (e4 ∙ none) (e5 ∙ none) refl
+    ∙ ap (λ (k : ℕ). record whole { last = k }) (end ∙ ap (λ (k : ℕ). first + (k - 2)) size)
+    ∙ sym (cond-false (has_no_text whole) no_texts whole some)
 
 -- a kind has at most the strings of the album and of 99 tracks
 pub record AreFewStrings (xs : List (List ℕ)) : Type 0 where

@@ -174,15 +174,18 @@ impl TextMap {
             return Ok(TextMap::empty(alloc));
         }
         let count = titles.items.len();
+        let composer = empty_strings(alloc, count)?;
+        let arranger = empty_strings(alloc, count)?;
+        let message = empty_strings(alloc, count)?;
         Ok(TextMap {
             first,
             last: first + (count - 2) as u8,
             title: titles,
             performer: performers,
             songwriter: songwriters,
-            composer: empty_strings(alloc, count)?,
-            arranger: empty_strings(alloc, count)?,
-            message: empty_strings(alloc, count)?,
+            composer,
+            arranger,
+            message,
             code: codes,
         })
     }
@@ -202,16 +205,23 @@ impl TextMap {
         ensures { IfOk result (λ map. map ≡ all_texts kept.now first last) }
     {
         let count = usize::from(last - first) + 2;
+        let title = kind_texts(alloc, kept, count, TextKind::Title)?;
+        let performer = kind_texts(alloc, kept, count, TextKind::Performer)?;
+        let songwriter = kind_texts(alloc, kept, count, TextKind::Songwriter)?;
+        let composer = kind_texts(alloc, kept, count, TextKind::Composer)?;
+        let arranger = kind_texts(alloc, kept, count, TextKind::Arranger)?;
+        let message = kind_texts(alloc, kept, count, TextKind::Message)?;
+        let code = kind_texts(alloc, kept, count, TextKind::Code)?;
         Ok(TextMap {
             first,
             last,
-            title: kind_texts(alloc, kept, count, TextKind::Title)?,
-            performer: kind_texts(alloc, kept, count, TextKind::Performer)?,
-            songwriter: kind_texts(alloc, kept, count, TextKind::Songwriter)?,
-            composer: kind_texts(alloc, kept, count, TextKind::Composer)?,
-            arranger: kind_texts(alloc, kept, count, TextKind::Arranger)?,
-            message: kind_texts(alloc, kept, count, TextKind::Message)?,
-            code: kind_texts(alloc, kept, count, TextKind::Code)?,
+            title,
+            performer,
+            songwriter,
+            composer,
+            arranger,
+            message,
+            code,
         })
     }
 
