@@ -1,9 +1,9 @@
 -- The words that end with a block, and the window after it.
-use Rattle.std.proofs.Common.{◌≡◌, ℕ, zero, suc, ◌+◌, ◌-◌, ◌*◌, ◌%◌, ◌<◌, ◌≤◌, Bool, false, List, [], ◌∷◌, ◌++◌, length, length-append, length-drop, map, min, take, drop, refl, sym, ap, ap₂, zero-add, ◌∙◌, arith, Some, None, inl, inr, bit_or}
+use Rattle.std.proofs.Common.{◌≡◌, ℕ, zero, suc, ◌+◌, ◌-◌, ◌*◌, ◌%◌, ◌<◌, ◌≤◌, Bool, true, false, List, [], ◌∷◌, ◌++◌, length, length-append, length-drop, ltb, map, min, take, drop, ltb, Fits, w64, refl, sym, subst, ap, ap₂, zero-add, ◌∙◌, arith, Some, None, inl, inr, bit_or}
 use Rattle.std.specs.Prelude.{slice_index, replicate}
 use Rattle.std.specs.declared.option.Option.{Option}
 use Rattle.std.specs.List.{concat, range_with_len}
-use Rattle.std.proofs.lemmas.Bool.{cases_lt}
+use Rattle.std.proofs.lemmas.Bool.{cases_lt, ltb-true}
 use Rattle.std.proofs.lemmas.Nat.{or_mod, le_or_l, le_or_r}
 use Rattle.std.proofs.lemmas.List.{append-nil, append_assoc, drop_all, drop-drop, get_or-append_right, get_or_append_left, get_or-drop, get_or-replicate, get_or-take, length-replicate, length-take-le, replicate-append-replicate, take-append-drop}
 use Rattle.std.proofs.lemmas.Grind.{same_number_lists}
@@ -180,13 +180,26 @@ symbol_is b j i p x at lt place =
     let there : x ≡ 24 * (j + p % 8) + p = omega (arith, place) in
     ap (λ k. slice_index b k % 64) there ∙ sym (symbol_in b j p lt) ∙ ap (symbol_at (slots_in b j 8)) (sym at)
 
-pub symbol_at_place : (b : List ℕ) (j i p x : ℕ) → ((n : ℕ) → n < 264 → slice_index b n < 64) → swapped i ≡ p
-    → p < 24 → 24 * j + (24 * (p % 8) + p) ≡ x → x < 264
-    → slice_index b x ≡ symbol_at (slots_in b j 8) (swapped i)
-symbol_at_place b j i p x small at lt place within =
-    let below = small x within in
-    let low : slice_index b x ≡ slice_index b x % 64 = omega (arith, below) in
-    low ∙ symbol_is b j i p x at lt place
+-- the symbol that is d bytes after the first byte of slot j, one of the four slots that begin a word
+pub place_fits : (j d : ℕ) → j < 4 → ltb d 192 ≡ true → Fits w64 (24 * j + d)
+place_fits j d first few = omega (arith, first, ltb-true d 192 few)
+
+pub place_within : (j d : ℕ) → j < 4 → ltb d 192 ≡ true → 24 * j + d < 264
+place_within j d first few = omega (arith, first, ltb-true d 192 few)
+
+pub symbol_small : (b : List ℕ) (j d x symbol : ℕ) → ((n : ℕ) → n < 264 → slice_index b n < 64) → j < 4
+    → symbol ≡ slice_index b x → 24 * j + d ≡ x → ltb d 192 ≡ true → symbol < 64
+symbol_small b j d x symbol small first is place few =
+    subst (λ s. s < 64) (sym is) (small x (subst (λ n. n < 264) place (place_within j d first few)))
+
+pub symbol_at_place : (b : List ℕ) (j i p d x symbol : ℕ) → ((n : ℕ) → n < 264 → slice_index b n < 64)
+    → j < 4 → symbol ≡ slice_index b x → 24 * j + d ≡ x → ltb d 192 ≡ true → swapped i ≡ p → ltb p 24 ≡ true
+    → 24 * (p % 8) + p ≡ d → symbol ≡ symbol_at (slots_in b j 8) (swapped i)
+symbol_at_place b j i p d x symbol small first is there few at in_slot place =
+    let below : symbol < 64 = symbol_small b j d x symbol small first is there few in
+    let low : symbol ≡ symbol % 64 = omega (arith, below) in
+    low ∙ ap (λ s. s % 64) is
+    ∙ symbol_is b j i p x at (ltb-true p 24 in_slot) (ap (λ n. 24 * j + n) place ∙ there)
 
 -- ---- Zeros.
 
