@@ -1,20 +1,21 @@
 -- The slots that a spreader makes from a list of packs.
-use Rattle.std.proofs.Common.{◌≡◌, ◌≢◌, ℕ, zero, suc, ◌+◌, ◌-◌, ◌*◌, ◌/◌, ◌%◌, ◌<◌, ◌≤◌, cond, ltb, List, [], ◌∷◌, ◌++◌, length, get_or, map, drop, replicate, refl, sym, ap, ap₂, ◌∙◌, arith, append_assoc, length-append, length-drop, Option, Some, None, unwrap_or, slice_get, inl, inr}
+use Rattle.std.proofs.Common.{◌≡◌, ◌≢◌, ℕ, zero, suc, ◌+◌, ◌-◌, ◌*◌, ◌/◌, ◌%◌, ◌<◌, ◌≤◌, cond, ltb, List, [], ◌∷◌, ◌++◌, length, length-set, get_or, set, map, drop, replicate, refl, sym, ap, ap₂, ◌∙◌, arith, append_assoc, length-append, length-drop, Option, Some, None, unwrap_or, slice_get, inl, inr, rules}
 use Rattle.std.specs.List.{All, concat, range_with_len, AllByRecursion}
 use Rattle.std.proofs.lemmas.Bool.{cases_lt, lt-ltb, le-ltb}
 use Rattle.std.proofs.lemmas.List.{get_or_append_left, get_or-append_right, length-replicate, drop-append-le, drop-drop, get_or-drop, get_or-replicate, get_or_default}
 use Rattle.std.proofs.lemmas.Option.{unwrap_or-slice_get}
-use Rattle.std.proofs.lemmas.List.Elements.{All-append, All-replicate}
-use Rattle.rw_code.specs.Codeword.{IsCodeword}
+use Rattle.std.proofs.lemmas.List.Elements.{All-append, All-get_or, All-replicate}
+use Rattle.rw_code.specs.Codeword.{IsCodeword, IsWord}
 use Rattle.std.proofs.lemmas.List.FromFn.{length-map-range_with_len, get_or-map-range_with_len, fill_by_all}
 use Rattle.cdg_io.specs.Run.{give, run_gives}
 use Rattle.bit_lists.specs.Counting.{below}
+use Rattle.rw_interleave.specs.declared.slot.TheConstants.{SWAPPED}
 use Rattle.rw_interleave.specs.Interleave.{swapped, place, word_of, whole_of_slots, whole_packs, Carries}
 use Rattle.rw_interleave.specs.Gathering.{last_seven}
 use Rattle.rw_interleave.specs.Spreading.{spread_symbol, spread_over, spread_next, spread_gives, filled_with_idle}
 use Rattle.rw_interleave.proofs.Ranges.{map_range}
-use Rattle.rw_interleave.proofs.Places.{concat_at, swapped-lt}
-use Rattle.rw_interleave.proofs.Eighths.{swapped_back}
+use Rattle.rw_interleave.proofs.Places.{concat_at, swapped_is, swapped-lt}
+use Rattle.rw_interleave.proofs.Eighths.{HasEighths, eighth_more, no_exchange, swapped_back}
 
 -- the symbol at a position of slot k of some packs
 abbrev slot_symbol : List (List ℕ) → ℕ → ℕ → ℕ
@@ -98,6 +99,46 @@ symbol_back packs found symbols back position found_is is at lt =
     value
     ∙ ap (λ (k : ℕ). cond (ltb k (length packs))
     (get_or (get_or packs (length packs - k - 1) []) (swapped position) 0) 0) (sym at)
+
+pub symbols_back : (packs : List (List ℕ)) (found : Option (List ℕ)) (symbols : List ℕ) (back : ℕ)
+    → found ≡ cond (ltb back (length packs)) (slice_get packs (length packs - back - 1)) None
+    → symbols ≡ unwrap_or found (replicate 24 0) → (position : ℕ) → position < 24 → position % 8 ≡ back
+    → get_or symbols (swapped position) 0 ≡ spread_symbol packs position
+symbols_back packs found symbols back found_is is position lt at =
+    symbol_back packs found symbols back position found_is is at lt
+
+-- the symbols that come before the first pack
+pub zeros_word : IsWord (replicate 24 0)
+zeros_word = record { size = refl; symbols = search rules }
+
+-- the three symbols of a slot that are from one pack are put
+pub spread_more : (packs : List (List ℕ)) (bytes symbols : List ℕ) (back : ℕ) → back < 8 → IsWord symbols
+    → ((p : ℕ) → p < 24 → p % 8 ≡ back → get_or symbols (swapped p) 0 ≡ spread_symbol packs p)
+    → length bytes ≡ 24 → HasEighths (λ p. p) (spread_symbol packs) bytes back
+    → HasEighths (λ p. p) (spread_symbol packs)
+    (set (set (set bytes back (get_or symbols (get_or SWAPPED back 0) 0)) (back + 8)
+    (get_or symbols (get_or SWAPPED (back + 8) 0) 0)) (back + 16)
+    (get_or symbols (get_or SWAPPED (back + 16) 0) 0)) (back + 1)
+spread_more packs bytes symbols back few is_word same size done =
+    let value : ℕ → ℕ = λ p. get_or symbols (swapped p) 0 in
+    let put : (p : ℕ) → p < 24 → get_or symbols (get_or SWAPPED p 0) 0 ≡ value p =
+    λ p lt. ap (λ k. get_or symbols k 0) (swapped_is p lt) in
+    let small : (p : ℕ) → p < 24 → p % 8 ≡ back → value p % 64 ≡ spread_symbol packs p =
+    λ p lt at.
+    let below : value p < 64 =
+    All-get_or (λ s. s < 64) symbols (swapped p) 0 (omega (arith, is_word.size, swapped-lt p lt))
+    is_word.symbols in
+    let low : value p % 64 ≡ value p = omega (arith, below) in
+    low ∙ same p lt at in
+    eighth_more (λ p. p) (spread_symbol packs) value bytes _ _ _ back no_exchange few size done small
+    (ap (set bytes back) (put back (omega arith)))
+    (ap (set _ (back + 8)) (put (back + 8) (omega arith)))
+    (ap (set _ (back + 16)) (put (back + 16) (omega arith)))
+
+pub three_sets_size : (bytes : List ℕ) (i j k x y z : ℕ) → length bytes ≡ 24
+    → length (set (set (set bytes i x) j y) k z) ≡ 24
+three_sets_size bytes i j k x y z size =
+    length-set (set (set bytes i x) j y) k z ∙ length-set (set bytes i x) j y ∙ length-set bytes i x ∙ size
 
 -- the packs that are kept are the last seven
 kept : (h : List (List ℕ)) (p : List ℕ) → spread_next (last_seven h) p ≡ last_seven (h ++ p ∷ [])
