@@ -529,7 +529,7 @@ void ribjasper_text_pack_symbols(const uint8_t pack[18], uint8_t symbols[24]);
                                    CD-ROM, 16 is CD-i, 32 is XA */
 #define RIBJASPER_Q_LAST 3      /* table of contents: the last track (track) */
 #define RIBJASPER_Q_LEAD_OUT 4  /* table of contents: the start of the lead-out (absolute) */
-#define RIBJASPER_Q_CATALOGUE 5 /* the catalogue number: thirteen digits (text), and 1/75 seconds of the time (frame) */
+#define RIBJASPER_Q_CATALOGUE 5 /* the catalogue number: thirteen digits (text); of the disc time, only the 1/75 seconds (frame) */
 #define RIBJASPER_Q_ISRC 6      /* the track's recording code: twelve characters (text); frame as for kind 5 */
 #define RIBJASPER_Q_OTHER 7     /* any other frame: its ADR (mode), and its bytes 1 to 9, counted from 0 (text) */
 
@@ -598,7 +598,7 @@ typedef struct ribjasper_tally {
     uint64_t bad;            /* words with no codeword near */
     uint64_t frames;         /* valid frames of the Q channel, at most one in each block; 0 for RIBJASPER_PACKS */
     uint64_t bad_frames;     /* bad Q frames: with a wrong CRC or an impossible value */
-    uint64_t frame_block;    /* the block with the last valid frame, counted from 1; 0 if there is none */
+    uint64_t frame_block;    /* the number of the block with the last valid frame, from 1; 0 if there is none */
     ribjasper_q_frame frame; /* this last valid frame, or zeros if there is none */
 } ribjasper_tally;
 
