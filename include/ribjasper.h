@@ -529,7 +529,8 @@ void ribjasper_text_pack_symbols(const uint8_t pack[18], uint8_t symbols[24]);
                                    CD-ROM, 16 is CD-i, 32 is XA */
 #define RIBJASPER_Q_LAST 3      /* table of contents: the last track (track) */
 #define RIBJASPER_Q_LEAD_OUT 4  /* table of contents: the start of the lead-out (absolute) */
-#define RIBJASPER_Q_CATALOGUE 5 /* the catalogue number: thirteen digits (text); of the disc time, only the 1/75 seconds (frame) */
+#define RIBJASPER_Q_CATALOGUE 5 /* the catalogue number: thirteen digits (text); of the disc time, only the 1/75
+                                   seconds (frame) */
 #define RIBJASPER_Q_ISRC 6      /* the track's recording code: twelve characters (text); frame as for kind 5 */
 #define RIBJASPER_Q_OTHER 7     /* any other frame: its ADR (mode), and its bytes 1 to 9, counted from 0 (text) */
 
