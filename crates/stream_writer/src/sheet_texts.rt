@@ -5,7 +5,7 @@ ghost use Rattle.cdtext_packs.specs.Texts.{IsString};
 ghost use Rattle.stream_writer.specs.SheetTexts.{for_each, string_at, texts_of_sheet};
 ghost use Rattle.stream_writer.specs.Needs.{text_packs, HasRoom};
 ghost use Rattle.cdtext_packs.specs.Packs.{text_bytes};
-ghost use Rattle.cdtext_packs.specs.Writing.{pack_count};
+ghost use Rattle.cdtext_packs.specs.Writing.{pack_count, packs_of};
 ghost use Rattle.stream_writer.specs.Stops.{IsLeadInRefusal};
 
 use cdtext_packs::{MOST_PACKS, Strings, TEXT_BYTES, TextKind, TextMap, TextPack, pack_all};
@@ -68,11 +68,17 @@ pub fn pack_texts(alloc: Global, sheet: &Sheet, lead_in: u32) -> Result<Vec<Text
         return Ok(Vec::new(alloc));
     }
     let map = texts_of_sheet(alloc, sheet)?;
-    // There are at most 256 packs, so the only error is a failed allocation.
-    let Ok(packs) = pack_all(alloc, &map) else {
-        return Err(AllocError);
-    };
-    Ok(packs)
+    pack_few(alloc, &map)
+}
+
+// The packs of texts. There are at most 256 packs, so the only error is a failed allocation.
+fn pack_few(alloc: Global, map: &TextMap) -> Result<Vec<TextPack>, AllocError>
+    ensures { IfOk result (λ packs. packs.items ≡ packs_of map.now) }
+{
+    match pack_all(alloc, map) {
+        Ok(packs) => Ok(packs),
+        Err(_) => Err(AllocError),
+    }
 }
 
 /// The reason why a lead-in is too short for the texts of a sheet or for its table of contents.
