@@ -1,10 +1,11 @@
 -- A running merge: the consumed bytes, the results and the output, pair of blocks by pair of blocks.
-use Rattle.std.proofs.Common.{◌≡◌, ◌≢◌, ◌⊎◌, ℕ, ◌+◌, ◌-◌, ◌*◌, ◌/◌, ◌%◌, ◌<◌, ◌≤◌, min, List, [], ◌++◌, length, take, drop, refl, sym, ap, ap₂, ◌∙◌, subst, subst₂, inl, inr, arith, append-nil, length-append, IfOk, Result, Ok, Err}
-use Rattle.std.specs.Prelude.{IfSome}
+use Rattle.std.proofs.Common.{◌≡◌, ◌≢◌, ◌⊎◌, ℕ, ◌+◌, ◌-◌, ◌*◌, ◌/◌, ◌%◌, ◌<◌, ◌≤◌, min, List, [], ◌++◌, length, take, drop, refl, sym, ap, ap₂, ◌∙◌, subst, subst₂, inl, inr, arith, append-nil, length-append, IfOk, Result, Ok, Err, Fits, w32}
+use Rattle.std.specs.Prelude.{IfSome, is_none}
 use Rattle.std.specs.declared.option.Option.{Option}
 use Rattle.std.specs.Io.KnownBytes.{Appends, Consumes, IsAtEnd, Keeps}
 use Rattle.std.proofs.KnownBytes.{Appends-kept, Appends-trans, Consumes-trans, Appends-nil, Consumes-nil}
 use Rattle.std.proofs.lemmas.List.{take_all, take-append-le, drop-append-le}
+use Rattle.std.proofs.lemmas.List.Sums.{count_by-le-length}
 use Rattle.cdg_io.specs.Moves.{AppendsPrefix}
 use Rattle.cdg_io.proofs.PumpSteps.{between}
 use Rattle.cdg_io.proofs.Runs.{run_state-append, run_gives-append}
@@ -48,6 +49,22 @@ pub record Works (lead_in blocks : ℕ) (left left' other other' held held' : Op
   pub is_found : IsFound lead_in blocks xs ys w v found
   pub put : Appends held held' (cdg_bytes found)
   pub bad_is : bad ≡ bad_count found
+
+-- the number of words with no agreed codeword, after one block more
+pub bad_fits : (blocks bad more : ℕ) (found others : List (Option (List ℕ))) → bad ≡ bad_count found
+    → length found ≤ 4 * blocks → more ≡ bad_count others → length others ≤ 4 → blocks < most_units
+    → Fits w32 (bad + more)
+bad_fits blocks bad more found others bad_is few more_is four lt =
+    omega (
+      arith,
+      bad_is,
+      few,
+      more_is,
+      four,
+      lt,
+      count_by-le-length is_none found,
+      count_by-le-length is_none others,
+    )
 
 -- the waiting bytes were written
 pub works_kept : (lead_in blocks : ℕ) (left left' other other' held held' kept : Option (List ℕ))

@@ -7,7 +7,7 @@ use Rattle.cdg_io.proofs.Stops.{later_since, rose_once_since, rose_since}
 use Rattle.rw_merge.proofs.Faults.{counted_last}
 use Rattle.rw_merge.proofs.Ends.{block_more, blocks_filled, byte_filled_after, stop_since}
 use Rattle.rw_merge.proofs.Stops.{first_at_end, first_at_end_after, second_at_end, second_at_end_after, write_answer}
-use Rattle.rw_merge.proofs.Working.{works_kept, both_of_whole, end_of_whole, end_stops, ends, pair_found, pair_of_whole, pair_stops, short_end, short_pair, skipped_as, works_more, works_none, write_stops}
+use Rattle.rw_merge.proofs.Working.{bad_fits, works_kept, both_of_whole, end_of_whole, end_stops, ends, pair_found, pair_of_whole, pair_stops, short_end, short_pair, skipped_as, works_more, works_none, write_stops}
 use Rattle.rw_merge.proofs.merge.Merger.merge_pairs.Goals as goal
 use Rattle.rw_merge.proofs.merge.Merger.merge_pairs.Goals.{then-block-lead_in+in-Ok, else-block-lead_in}
 
@@ -356,3 +356,10 @@ returns-in-Err-put_all-clause-answer g c = write_answer c.args.lead_in _ _
 
 pub merge-requires : goal.merge-requires
 merge-requires g c = c.loop-block.invariant.same
+
+pub overflow_add-bad : goal.overflow_add-bad
+overflow_add-bad g c =
+    let (xs, ys, works) = c.loop-block.invariant.works in
+    let (others, all, bytes_are, more_is, four) = c.merge.ensures.packs in
+    bad_fits c.loop-block.block c.loop-block.bad c.merge.new.packs.bad works.found others works.bad_is
+    works.is_found.few more_is four c.loop-block-test.true
