@@ -293,13 +293,16 @@ pub fn author_planned<K: Sink>(
     // Laws: planned packs are a schedule, and the pictures of a script are in order and have sixteen colours.
     script.times_rise_and_colours_are_in_range();
     let inputs = allocate_inputs(heap, sheet, script, planned, lead_in, length)?;
-    let StreamInputs {
-        layout,
-        texts,
-        mut spread,
-        weaver,
-    } = inputs;
-    let mut source = Scheduled { weaver };
-    write_stream(&layout, &texts, lead_in, &mut source, &mut spread, out)?;
+    let written = {
+        let StreamInputs {
+            layout,
+            texts,
+            mut spread,
+            weaver,
+        } = inputs;
+        let mut source = Scheduled { weaver };
+        write_stream(&layout, &texts, lead_in, &mut source, &mut spread, out)
+    };
+    written?;
     Ok(())
 }

@@ -36,8 +36,8 @@ same_blocks : (sheet : CueSheet) (audio : ℕ) (layout : DiscLayout) → layout 
     → program_blocks sheet audio ≡ layout.blocks
 same_blocks sheet audio layout is = sym (ap (λ (l : DiscLayout). l.blocks) is)
 
-pub write_stream-requires-clause-cut : goal.write_stream-requires-clause-cut
-write_stream-requires-clause-cut g c =
+pub write_stream-written-requires-clause-cut : goal.write_stream-written-requires-clause-cut
+write_stream-written-requires-clause-cut g c =
     let known = c.times_rise_and_colours_are_in_range.ensures in
     cut_idle c.args.script.now c.in_ok-inputs.inputs.weaver c.in_ok-inputs.inputs.layout.blocks
     (few_blocks c.args.sheet.now c.args.length c.in_ok-inputs.inputs.layout c.in_ok-inputs.ensures.layout
@@ -50,8 +50,8 @@ write_stream-requires-clause-cut g c =
     (c.args.planned, c.requires.planned)
     known.held (record { border = known.borders; colour = known.colours }) known.pixels)
 
-pub returns-in_err-write_stream-clause-written : goal.returns-in_err-write_stream-clause-written
-returns-in_err-write_stream-clause-written g c = record {
+pub returns-in_err-written-clause-written : goal.returns-in_err-written-clause-written
+returns-in_err-written-clause-written g c = record {
   authored = search rules;
   untouched = search rules;
   write_fault = search rules;
@@ -59,13 +59,13 @@ returns-in_err-write_stream-clause-written g c = record {
       part_of c.args.sheet.now c.args.script.now c.in_ok-inputs.inputs.weaver c.in_ok-inputs.inputs.layout
       c.deref.result.now
       c.args.lead_in c.args.length
-      (g.K.Sink.held c.args.out.now) (g.K.Sink.held c.write_stream.new.out)
+      (g.K.Sink.held c.args.out.now) (g.K.Sink.held c.write_stream-written.new.out)
       c.in_ok-inputs.ensures.layout
       (few_blocks c.args.sheet.now c.args.length c.in_ok-inputs.inputs.layout c.in_ok-inputs.ensures.layout
       c.requires.disc.0.1)
       (record { script_is = c.in_ok-inputs.ensures.script; given_is = c.in_ok-inputs.ensures.given })
       (λ some. c.deref.ensures.value ∙ c.in_ok-inputs.ensures.texts some)
-      (let part = c.in_err-write_stream.ensures.part in (part.0, part.1, part.2));
+      (let part = c.in_err-written.ensures.part in (part.0, part.1, part.2));
 }
 
 pub returns-clause-written : goal.returns-clause-written
@@ -78,7 +78,7 @@ returns-clause-written g c =
       authored = authored c.packs_are_a_schedule.ensures.schedule c.args.sheet.now c.args.script.now
           c.in_ok-inputs.inputs.weaver
           c.in_ok-inputs.inputs.layout c.deref.result.now c.args.lead_in c.args.length
-          (g.K.Sink.held c.args.out.now) (g.K.Sink.held c.write_stream.new.out)
+          (g.K.Sink.held c.args.out.now) (g.K.Sink.held c.write_stream-written.new.out)
           c.in_ok-inputs.ensures.layout
           (few_blocks c.args.sheet.now c.args.length c.in_ok-inputs.inputs.layout
           c.in_ok-inputs.ensures.layout
@@ -90,5 +90,5 @@ returns-clause-written g c =
           c.requires.within
           (c.args.planned, c.requires.planned)
           known.held (record { border = known.borders; colour = known.colours }) known.pixels)
-          c.in_ok-write_stream.ensures.ok;
+          c.in_ok-written.ensures.ok;
     }
