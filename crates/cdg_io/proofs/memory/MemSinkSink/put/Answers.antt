@@ -1,9 +1,47 @@
-use Rattle.std.proofs.Common.{◌≡◌, ◌+◌, ◌-◌, ◌^◌, min, ap, ◌∙◌, arith}
-use Rattle.cdg_io.specs.Memory.{SinkInMemory, next_number}
+use Rattle.std.proofs.Common.{◌≡◌, ◌+◌, ◌-◌, ◌^◌, ℕ, List, length, min, inl, inr, Contains, refl, ap, sym, ◌∙◌, subst, rules, arith}
+use Rattle.cdg_io.specs.Memory.{SinkInMemory, may_move, next_number}
 use Rattle.cdg_io.proofs.Stops.{rose_by_one}
 use Rattle.cdg_io.proofs.memory.MemSinkSink.put.Goals as goal
+use Rattle.cdg_io.proofs.memory.MemSinkSink.put.Goals.{then-room-eq0-via-then-room-eq0, then-room-eq0-via-else-room-eq0+then-is_listed}
+
+-- the number of a call is listed
+listed : (inside now : SinkInMemory) (fails : List ℕ) → inside ≡ now → fails ≡ inside.fails
+    → Contains fails inside.calls
+    → Contains now.fails now.calls
+listed inside now fails same is has =
+    subst (λ (s : SinkInMemory). Contains s.fails s.calls) same
+    (subst (λ (xs : List ℕ). Contains xs inside.calls) is has)
+
+pub overflow_sub-room : goal.overflow_sub-room
+overflow_sub-room c = omega (arith, c.len.ensures, c.self.invariant.0)
 
 -- ---- The call fails.
+
+pub invariant_of-self : goal.invariant_of-self
+invariant_of-self c = c.self.invariant
+
+pub returns-then-room-eq0-clause-fails : goal.returns-then-room-eq0-clause-fails
+returns-then-room-eq0-clause-fails c = (
+  λ _. elim c.then-room-eq0.branch [
+    | then-room-eq0-via-then-room-eq0 w ↦ inr (
+        let size : c.len.result ≡ length c.self.inside.bytes.items = search rules in
+        omega (
+          arith,
+          size,
+          w.if-room-eq0.true,
+          c.self.invariant.0,
+          c.len.ensures,
+          ap (λ (s : SinkInMemory). length s.held) c.self.view_is,
+          ap (λ (s : SinkInMemory). s.room) c.self.view_is,
+        )
+        )
+    | then-room-eq0-via-else-room-eq0+then-is_listed w ↦ inl (
+        listed _ c.args.self.now w.deref.result.now c.self.view_is w.deref.ensures.value
+        (w.if-is_listed.ensures.0 (search rules))
+        )
+  ],
+  λ _. refl,
+)
 
 pub returns-then-room-eq0-clause-bound : goal.returns-then-room-eq0-clause-bound
 returns-then-room-eq0-clause-bound c = tt
@@ -59,4 +97,21 @@ returns-clause-same c = (
   ap (λ (v : SinkInMemory). v.cuts) c.self.view_is,
   ap (λ (v : SinkInMemory). v.fails) c.self.view_is,
   ap (λ (v : SinkInMemory). v.room) c.self.view_is,
+)
+
+pub returns-clause-takes : goal.returns-clause-takes
+returns-clause-takes c =
+    let n = length c.args.piece.now in
+    let size : c.len.result ≡ length c.self.inside.bytes.items = search rules in
+    c.min-count.ensures
+    ∙ ap (λ (k : ℕ). min k (c.self.inside.room - c.len.result)) (c.most_of.ensures.most
+    ∙ ap (λ (cuts : List ℕ). may_move cuts c.self.inside.calls n) c.deref-2.ensures.value)
+    ∙ ap (λ (k : ℕ). min (may_move c.self.inside.cuts.items c.self.inside.calls n) (c.self.inside.room - k))
+    size
+    ∙ ap (λ (s : SinkInMemory). min (may_move s.cuts s.calls n) (s.room - length s.held)) c.self.view_is
+
+pub returns-clause-bound : goal.returns-clause-bound
+returns-clause-bound c = (
+  omega (arith, c.min-count.ensures, c.most_of.ensures.some, c.if-room-eq0.false),
+  omega (arith, c.min-count.ensures, c.most_of.ensures.within),
 )
