@@ -1,8 +1,51 @@
-use Rattle.std.proofs.Common.{◌≡◌, ◌≤◌, ◌+◌, ◌-◌, ◌*◌, ◌/◌, ◌++◌, ℕ, take, drop, length, refl, rules, arith, ◌∙◌, ap}
+use Rattle.std.proofs.Common.{◌≡◌, ◌≤◌, ◌+◌, ◌-◌, ◌*◌, ◌/◌, ◌++◌, ℕ, min, take, drop, length, refl, rules, arith, ◌∙◌, ap}
 use Rattle.std.proofs.lemmas.List.{take_rest}
 use Rattle.cdg_io.proofs.Changed.{row_passes, put_behind, stays_behind}
+use Rattle.std.proofs.Math.Nat.{mul_comm, mul-le-mul_right, div-mul-le_self}
 use Rattle.cdg_io.proofs.Idle.{units_fit}
 use Rattle.cdg_io.proofs.in_place.take_row_in_place.Goals as goal
+
+-- the units fit into the row and into the buffer
+size_fits : (unit count least row room most : ℕ) → least ≡ min (row / unit) (room / unit)
+    → count ≡ min least most
+    → (unit * count ≤ row) × (unit * count ≤ room)
+size_fits unit count least row room most least_is count_is =
+    let comm = mul_comm unit count in
+    let in_row : count ≤ row / unit = omega arith in
+    let in_room : count ≤ room / unit = omega arith in (
+      omega (arith, comm, mul-le-mul_right unit in_row, div-mul-le_self row unit),
+      omega (arith, comm, mul-le-mul_right unit in_room, div-mul-le_self room unit),
+    )
+
+pub nonzero_div-room : goal.nonzero_div-room
+nonzero_div-room g c = omega (arith, c.SIZE-unit.ensures, c.requires.size)
+
+pub nonzero_div-row : goal.nonzero_div-row
+nonzero_div-row g c = omega (arith, c.SIZE-unit.ensures, c.requires.size)
+
+pub overflow_mul-size : goal.overflow_mul-size
+overflow_mul-size g c =
+    let fits = size_fits c.SIZE-unit.result c.min-count.result c.min.result _ _ _ c.min.ensures
+    c.min-count.ensures in
+    search (rules, fits.1)
+
+pub overflow_add-end : goal.overflow_add-end
+overflow_add-end g c =
+    let fits = size_fits c.SIZE-unit.result c.min-count.result c.min.result _ _ _ c.min.ensures
+    c.min-count.ensures in
+    search (rules, fits.1)
+
+pub change_row-requires : goal.change_row-requires
+change_row-requires g c =
+    let fits = size_fits c.SIZE-unit.result c.min-count.result c.min.result _ _ _ c.min.ensures
+    c.min-count.ensures in
+    search (rules, fits.0, c.SIZE-unit.ensures)
+
+pub returns-clause-most : goal.returns-clause-most
+returns-clause-most g c = omega (arith, c.min-count.ensures)
+
+pub overflow_cast-result : goal.overflow_cast-result
+overflow_cast-result g c = omega (arith, c.min-count.ensures, c.ranges.most)
 
 pub returns-clause-works : goal.returns-clause-works
 returns-clause-works g c =
