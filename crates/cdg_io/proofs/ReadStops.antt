@@ -1,5 +1,5 @@
 -- The stops of a reader and of a pump differ.
-use Rattle.std.proofs.Common.{◌≡◌, ℕ, ◌+◌, ◌≤◌, List, ◌++◌, length, take, length-append, Result, Err, refl, arith, ◌∙◌}
+use Rattle.std.proofs.Common.{◌≡◌, ℕ, ◌+◌, ◌-◌, ◌<◌, ◌≤◌, List, ◌++◌, length, take, length-append, Result, Err, refl, arith, ◌∙◌}
 use Rattle.std.specs.declared.option.Option.{Option}
 use Rattle.std.proofs.KnownBytes.{Consumes-kept, Consumes-trans}
 use Rattle.std.proofs.lemmas.List.{length-take}
@@ -13,6 +13,12 @@ use Rattle.cdg_io.specs.declared.pumping.PumpStop.TheVariants.{ReadFault, WriteF
 
 pub failed_is_no_length : ◌≡◌ {A = ReadStop} Failed TextTooLong → ⊥
 failed_is_no_length same = (cc)
+
+pub failed_is_no_memory : ◌≡◌ {A = ReadStop} Failed NoMemory → ⊥
+failed_is_no_memory same = (cc)
+
+pub same_stop : {T : Type 0} (a b : ReadStop) → ◌≡◌ {A = Result T ReadStop} (Err a) (Err b) → a ≡ b
+same_stop a b same = (cc)
 
 pub memory_is_no_length : ◌≡◌ {A = ReadStop} NoMemory TextTooLong → ⊥
 memory_is_no_length same = (cc)
@@ -83,3 +89,21 @@ read_more a b c old buf n bound before now = (
   Consumes-trans a b c old (take n buf) before now,
   omega (arith, length-append old (take n buf), length-take n buf, bound),
 )
+
+-- `n` more bytes than `len` came, and then a rest that fits, has one byte too many, or at most one
+pub rest_within : (limit len n : ℕ) (all rest : List ℕ) → length all ≡ len + n → len ≤ limit → n ≤ limit - len
+    → length rest ≤ limit - len - n
+    → length (all ++ rest) ≤ limit
+rest_within limit len n all rest count within room few = omega (arith, length-append all rest)
+
+pub rest_is_long : (limit len n : ℕ) (all rest : List ℕ) → length all ≡ len + n → len ≤ limit
+    → n ≤ limit - len
+    → length rest ≡ limit - len - n + 1
+    → length (all ++ rest) ≡ limit + 1
+rest_is_long limit len n all rest count within room few = omega (arith, length-append all rest)
+
+pub rest_is_below : (limit len n : ℕ) (all rest : List ℕ) → length all ≡ len + n → len ≤ limit
+    → n ≤ limit - len
+    → length rest < limit - len - n + 2
+    → length (all ++ rest) < limit + 2
+rest_is_below limit len n all rest count within room few = omega (arith, length-append all rest)
