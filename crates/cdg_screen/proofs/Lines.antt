@@ -1,9 +1,9 @@
 -- The pixels of a line of a tile side by side in one number.
-use Rattle.std.proofs.Common.{◌≡◌, ℕ, zero, suc, ◌+◌, ◌-◌, ◌*◌, ◌/◌, ◌%◌, ◌^◌, ◌<◌, ◌≤◌, Bool, true, false, ◌&&◌, ◌==◌, List, get_or, bit_xor, refl, sym, ap, ap₂, ◌∙◌, inl, inr, not-suc-le-zero, arith}
+use Rattle.std.proofs.Common.{◌≡◌, ℕ, zero, suc, ◌+◌, ◌-◌, ◌*◌, ◌/◌, ◌%◌, ◌^◌, ◌<◌, ◌≤◌, Bool, true, false, ◌&&◌, ◌==◌, List, get_or, bit_xor, refl, sym, ap, ap₂, ◌∙◌, inl, inr, not-suc-le-zero, arith, Fits, w64}
 use Rattle.std.specs.Prelude.{if◌then◌else◌, slice_index}
 use Rattle.std.specs.Int.{bytes_low_first}
 use Rattle.std.specs.Int.Bits.{xor_assoc, xor_self, xor_zero_l, xor_zero_r}
-use Rattle.std.proofs.lemmas.Nat.{xor_lt, xor_shr, xor_mod}
+use Rattle.std.proofs.lemmas.Nat.{mul-lt, xor_lt, xor_shr, xor_mod}
 use Rattle.std.proofs.lemmas.Bool.{cases_Bool, cases_lt, and_parts, eqb-true}
 use Rattle.bit_lists.specs.Bits.{has_bit}
 use Rattle.cdg_screen.specs.Memory.{line_colour}
@@ -188,3 +188,14 @@ pub colour-lt : (colour0 colour1 line i : ℕ) → colour0 < 16 → colour1 < 16
     → line_colour colour0 colour1 line i < 16
 colour-lt colour0 colour1 line i small0 small1 =
     elim (cases_Bool (has_bit (5 - i) line)) [ inl set ↦ rw set small1 | inr clear ↦ rw clear small0 ]
+
+-- a colour times the bits of a line fits
+pub colour_fits : (bits colour : ℕ) → bits < 2 ^ 41 → colour < 16 → Fits w64 (bits * colour)
+colour_fits bits colour bound small = omega (arith, mul-lt bits colour (2 ^ 41) 16 bound small)
+
+pub colours_fit : (bits colour0 colour1 colour : ℕ) → bits < 2 ^ 41 → colour0 < 16 → colour1 < 16
+    → colour ≡ bit_xor colour0 colour1
+    → Fits w64 (bits * colour)
+colours_fit bits colour0 colour1 colour bound small0 small1 is =
+    let small : bit_xor colour0 colour1 < 16 = xor_lt 4 colour0 colour1 small0 small1 in
+    colour_fits bits colour bound (omega (arith, is, small))
