@@ -65,7 +65,7 @@ class SheetOfDumpsTest(FolderTest):
         assert found
         self.assertEqual(int(found[1]) + 1, int(found[2]))
 
-    def test_a_jump_is_told_and_times_are_those_of_the_file(self) -> None:
+    def test_a_jump_is_reported_and_times_are_those_of_the_file(self) -> None:
         disc = three()
         stream = program(disc, 150, disc.end, 0)
         lines, ran = self.sheet(stream[: BLOCK * 500] + stream[BLOCK * 575 :])

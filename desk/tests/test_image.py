@@ -152,13 +152,13 @@ class ImageTest(FolderTest):
         self.assertIn("its texts are not those of", errors)
         self.assertIn("2 differ, as `title 00 All the Gaps` of the stream", errors)
 
-    def test_a_pressed_file_is_not_told_to_have_a_script(self) -> None:
+    def test_a_pressed_file_has_no_script(self) -> None:
         plain = self.write("b.cue", 'FILE "a.wav" WAVE\nTRACK 01 AUDIO\nINDEX 01 00:00:00\n')
         packs = program("convert", "--lead-in", LEAD_IN, "--", author(plain, HELLO, "00:22:00", self.folder / "b.raw"))[
             14_232:
         ]
         preset, idle = bytes([9, 1, 0, 0, 5]) + bytes(19), bytes(24)
-        for name, first, is_told in (("early", preset + 11 * idle, True), ("late", 11 * idle + preset, False)):
+        for name, first, is_reported in (("early", preset + 11 * idle, True), ("late", 11 * idle + preset, False)):
             pressed = self.write(
                 f"{name}.raw",
                 program(
@@ -176,7 +176,7 @@ class ImageTest(FolderTest):
             self.assertEqual(ran.status, 0, ran.errors)
             self.assertNotIn("--hold-through-pause", ran.errors)
             self.assertEqual(
-                "the first seven packs of its .cdg file begin in the first pause" in ran.errors, is_told, ran.errors
+                "the first seven packs of its .cdg file begin in the first pause" in ran.errors, is_reported, ran.errors
             )
 
     def test_without_texts_and_codes(self) -> None:

@@ -191,7 +191,7 @@ class LrcTest(SongTest):
         self.assertIn("line 2 at [00:00.00] would be sung before the audio begins, and is omitted: Heading", notes)
         self.assertIn("line 4 at [00:01.50] would begin 0.50 seconds before the audio", notes)
 
-    def test_order_is_told_with_the_times_as_they_are_written(self) -> None:
+    def test_order_is_reported_with_the_times_as_they_are_written(self) -> None:
         song = self.song("[00:05.00]One\n[0:03.0]Two\n[00:05.00]Three\n[00:05.00]Four\n")
         self.assertEqual([line.text for line in song.lines], ["Two", "One", "Three", "Four"])
         self.assertEqual(len(song.notes), 2)
