@@ -1,6 +1,7 @@
-use Rattle.std.proofs.Common.{arith, ap, sym, ◌∙◌, ◌≡◌, ◌≤◌, ◌+◌, ℕ, List, length, subst}
+use Rattle.std.proofs.Common.{arith, ap, sym, ◌∙◌, ◌≡◌, ◌<◌, ◌≤◌, ◌+◌, ◌++◌, ◌∷◌, [], ℕ, List, length, slice_index_or, take, subst}
 use Rattle.std.specs.Prelude.{map}
-use Rattle.std.proofs.lemmas.List.{take_all}
+use Rattle.std.proofs.lemmas.List.{map_more, take_all}
+use Rattle.std.proofs.lemmas.Result.{IfOk-from_err}
 use Rattle.cue_sheet.specs.CueSheet.{track_of}
 use Rattle.toc_model.specs.Places.{TrackPlace, blocks_before, place_of, track_begin}
 use Rattle.toc_model.specs.Layout.{IsPlace}
@@ -62,3 +63,77 @@ pub invariant_of-result : goal.invariant_of-result
 invariant_of-result c =
     subst IsPlace (sym (same c))
     (IsPlace-of c.args.sheet.now c.args.k c.tracks_are_in_order.ensures c.requires.track c.requires.fits)
+
+pub isrc-requires : goal.isrc-requires
+isrc-requires c = c.requires.track
+
+pub pregap-requires : goal.pregap-requires
+pregap-requires c = c.requires.track
+
+pub indices-count-requires : goal.indices-count-requires
+indices-count-requires c = c.requires.track
+
+pub control-requires : goal.control-requires
+control-requires c = c.requires.track
+
+pub index-requires-clause-track : goal.index-requires-clause-track
+index-requires-clause-track c = c.requires.track
+
+pub index-number-requires-clause-track : goal.index-number-requires-clause-track
+index-number-requires-clause-track c = c.requires.track
+
+pub index-number-requires-clause-line : goal.index-number-requires-clause-line
+index-number-requires-clause-line c = omega (arith, c.loop-j-test.true, c.indices-count.ensures.count)
+
+pub returns-in_err-lines : goal.returns-in_err-lines
+returns-in_err-lines c = IfOk-from_err c.from_residual.result _ c.from_residual.ensures.0
+
+pub returns-in_err-push : goal.returns-in_err-push
+returns-in_err-push c =
+    IfOk-from_err c.from_residual-in_err-push.result _ c.from_residual-in_err-push.ensures.0
+
+pub loop-j-init : goal.loop-j-init
+loop-j-init c = c.in_ok-lines.ensures.items
+
+pub overflow_add-before : goal.overflow_add-before
+overflow_add-before c = omega (arith, c.requires.small)
+
+pub overflow_add-before-2 : goal.overflow_add-before-2
+overflow_add-before-2 c = omega (arith, c.requires.small, c.pregap.ensures.bound)
+
+pub overflow_add-before-in-loop-j : goal.overflow_add-before-in-loop-j
+overflow_add-before-in-loop-j c =
+    omega (arith, c.requires.small, c.pregap.ensures.bound, c.index-number.ensures.bound.1)
+
+pub overflow_cast-result : goal.overflow_cast-result
+overflow_cast-result c =
+    omega (
+      arith,
+      c.tracks_are_in_order.ensures.next c.args.k c.requires.track,
+      (c.tracks_are_in_order.ensures.tracks c.args.k c.requires.track).number,
+    )
+
+pub overflow_add-result : goal.overflow_add-result
+overflow_add-result c =
+    omega (
+      arith,
+      c.first.ensures.number,
+      c.tracks_are_in_order.ensures.next c.args.k c.requires.track,
+      (c.tracks_are_in_order.ensures.tracks c.args.k c.requires.track).number,
+    )
+
+-- one more line
+line_more : (f : ℕ × ℕ → ℕ × ℕ) (lines : List (ℕ × ℕ)) (j : ℕ) (line : ℕ × ℕ) → j < length lines
+    → line ≡ slice_index_or lines j (0, 0)
+    → map f (take j lines) ++ f line ∷ [] ≡ map f (take (j + 1) lines)
+line_more f lines j line below is =
+    ap (λ (l : ℕ × ℕ). map f (take j lines) ++ f l ∷ []) is
+    ∙ sym (map_more f lines j (0, 0) below)
+
+pub loop-j-preserved : goal.loop-j-preserved
+loop-j-preserved c =
+    let f : ℕ × ℕ → ℕ × ℕ = λ line. (line.0, 150 + c.args.gaps + c.pregap.result + line.1) in
+    c.in_ok-push.ensures.items
+    ∙ ap (λ (lines : List (ℕ × ℕ)). lines ++ f c.index-number.result ∷ []) c.loop-j.invariant
+    ∙ line_more f (track_of c.args.sheet.now c.args.k).indices c.loop-j.j c.index-number.result
+    (omega (arith, c.loop-j-test.true, c.indices-count.ensures.count)) c.index-number.ensures.line
