@@ -92,14 +92,14 @@ fn run_line<
     let mut first = first.source(alloc)?;
     let mut second = second.source(alloc)?;
     let mut out = BufferedSink::new(alloc, BUFFER, TURN, RecordingWriter::new(stdout))?;
-    match read_words(words) {
+    let status = match read_words(words) {
         Some(command) => {
             let heap = &mut Heap::new(alloc);
-            let status = perform(heap, command, &mut first, &mut second, &mut out);
-            Ok(flushed(status, &mut out))
+            perform(heap, command, &mut first, &mut second, &mut out)
         }
-        None => Ok(flushed(Status::Usage, &mut out)),
-    }
+        None => Status::Usage,
+    };
+    Ok(flushed(status, &mut out))
 }
 
 // The words after the name of the program. If the machine reports that they are not text, there are no words.
