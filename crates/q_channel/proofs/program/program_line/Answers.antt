@@ -1,4 +1,4 @@
-use Rattle.std.proofs.Common.{◌≡◌, ◌<◌, ◌^◌, [], ◌∷◌, None, ap, ◌∙◌, arith}
+use Rattle.std.proofs.Common.{◌≡◌, ◌<◌, ◌^◌, [], ◌∷◌, length, None, ap, sym, ◌∙◌, arith}
 use Rattle.std.specs.Prelude.{Ok}
 use Rattle.std.specs.Char.{digit_char}
 use Rattle.bit_lists.specs.Bits.{bits_of_bytes}
@@ -38,3 +38,54 @@ returns c =
     (minute2 i) (second2 i) (part2 i))
     ∙ program_text m c.args.block within
     ∙ ap (λ x. q_line c.args.block (Ok (frame_at ProgramFrame x))) same
+
+pub slice_bounds-put-end : goal.slice_bounds-put-end
+slice_bounds-put-end c = sym (ap length c.six_digits.ensures)
+
+pub slice_bounds-put-end-3 : goal.slice_bounds-put-end-3
+slice_bounds-put-end-3 c = sym (ap length c.digits_of.ensures)
+
+pub slice_bounds-put-end-4 : goal.slice_bounds-put-end-4
+slice_bounds-put-end-4 c = sym (ap length c.digits_of-2.ensures)
+
+pub slice_bounds-put-end-5 : goal.slice_bounds-put-end-5
+slice_bounds-put-end-5 c = sym (ap length c.digits_of-3.ensures)
+
+pub slice_bounds-put-end-6 : goal.slice_bounds-put-end-6
+slice_bounds-put-end-6 c = sym (ap length c.digits_of-4.ensures)
+
+pub slice_bounds-put-end-7 : goal.slice_bounds-put-end-7
+slice_bounds-put-end-7 c = sym (ap length c.digits_of-5.ensures)
+
+pub slice_bounds-put-end-8 : goal.slice_bounds-put-end-8
+slice_bounds-put-end-8 c = sym (ap length c.digits_of-6.ensures)
+
+pub slice_bounds-put-end-9 : goal.slice_bounds-put-end-9
+slice_bounds-put-end-9 c = sym (ap length c.digits_of-7.ensures)
+
+pub slice_bounds-put-end-10 : goal.slice_bounds-put-end-10
+slice_bounds-put-end-10 c = sym (ap length c.digits_of-8.ensures)
+
+pub byte_of_frame-requires : goal.byte_of_frame-requires
+byte_of_frame-requires c = record { size = c.of_frame-message.ensures.size; within = omega arith }
+
+pub byte_of_frame-requires-2 : goal.byte_of_frame-requires-2
+byte_of_frame-requires-2 c = record { size = c.of_frame-message.ensures.size; within = omega arith }
+
+pub byte_of_frame-requires-3 : goal.byte_of_frame-requires-3
+byte_of_frame-requires-3 c = record { size = c.of_frame-message.ensures.size; within = omega arith }
+
+pub byte_of_frame-requires-4 : goal.byte_of_frame-requires-4
+byte_of_frame-requires-4 c = record { size = c.of_frame-message.ensures.size; within = omega arith }
+
+pub byte_of_frame-requires-5 : goal.byte_of_frame-requires-5
+byte_of_frame-requires-5 c = record { size = c.of_frame-message.ensures.size; within = omega arith }
+
+pub byte_of_frame-requires-6 : goal.byte_of_frame-requires-6
+byte_of_frame-requires-6 c = record { size = c.of_frame-message.ensures.size; within = omega arith }
+
+pub byte_of_frame-requires-7 : goal.byte_of_frame-requires-7
+byte_of_frame-requires-7 c = record { size = c.of_frame-message.ensures.size; within = omega arith }
+
+pub byte_of_frame-requires-8 : goal.byte_of_frame-requires-8
+byte_of_frame-requires-8 c = record { size = c.of_frame-message.ensures.size; within = omega arith }
