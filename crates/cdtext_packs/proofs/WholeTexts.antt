@@ -70,14 +70,14 @@ pub strings_with : (first n last : ℕ)
 strings_with first n last title performer songwriter composer arranger message code least some most size p s c
     e3
     e4 e5 end s0 s1 s2 s6 =
+    let whole : n ≡ n - 1 + 1 = omega arith in
     let none : (xs : List (List ℕ)) → xs ≡ replicate n [] → length xs ≡ n - 1 + 1 =
-    λ xs is. ap length is ∙ length-replicate n [] ∙ omega arith in
+    λ xs is. ap length is ∙ length-replicate n [] ∙ whole in
     let strings : (xs : List (List ℕ)) → xs ≡ replicate n [] → All IsString xs =
     λ xs is. subst (All IsString) (sym is) (none_are_strings n) in
-    has_tracks _ (n - 1) (omega arith) least (omega arith) (omega arith) (omega arith) (omega arith)
-    (omega arith)
-    (none composer e3) (none arranger e4) (none message e5) (omega arith) s0 s1 s2 (strings composer e3)
-    (strings arranger e4) (strings message e5) s6
+    has_tracks _ (n - 1) (omega arith) least (omega arith) (omega arith) (sym size ∙ whole)
+    (p ∙ sym size ∙ whole) (s ∙ sym size ∙ whole) (none composer e3) (none arranger e4) (none message e5)
+    (c ∙ sym size ∙ whole) s0 s1 s2 (strings composer e3) (strings arranger e4) (strings message e5) s6
 
 same_strings : (first last : ℕ) {a b c d e f g a' b' c' d' e' f' g' : List (List ℕ)} → a ≡ a' → b ≡ b'
     → c ≡ c' → d ≡ d' → e ≡ e' → f ≡ f' → g ≡ g'
@@ -230,4 +230,10 @@ strings_fit texts k are = elim are [
     count = omega (arith, tracks.count k, tracks.first, tracks.last, tracks.limit);
     each = tracks.strings k;
   }
+]
+
+pub first_fits : (texts : Texts) → AreTexts texts → texts.first ≤ 99
+first_fits texts are = elim are [
+  | inl none ↦ omega (arith, ap (λ (t : Texts). t.first) none)
+  | inr tracks ↦ omega (arith, tracks.last, tracks.limit)
 ]

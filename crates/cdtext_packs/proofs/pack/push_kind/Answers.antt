@@ -1,9 +1,13 @@
-use Rattle.std.proofs.Common.{◌≡◌, ◌+◌, ◌-◌, ◌*◌, ◌<◌, ℕ, List, [], ◌∷◌, ◌++◌, length, take, drop, map, inl, inr, slice_index_or, sym, ap, ◌∙◌, subst, arith, rules}
+use Rattle.std.proofs.Common.{◌≡◌, ◌+◌, ◌-◌, ◌*◌, ◌<◌, ◌≤◌, ℕ, List, [], ◌∷◌, ◌++◌, length, take, drop, map, inl, inr, slice_index_or, sym, ap, ◌∙◌, subst, arith, rules}
+use Rattle.std.proofs.lemmas.List.{append-nil, length-take}
+use Rattle.std.proofs.lemmas.Result.{IfOk-from_err}
 use Rattle.bit_lists.specs.Counting.{below}
 use Rattle.cdtext_packs.specs.Packs.{sealed}
-use Rattle.cdtext_packs.specs.Texts.{strings_of}
+use Rattle.cdtext_packs.specs.Texts.{AreTexts, Texts, strings_of}
+use Rattle.cdtext_packs.specs.declared.kinds.TextKind.{TextKind}
 use Rattle.cdtext_packs.specs.Writing.{Content, joined, holders, twelve, text_content, type_of, numbered, kind_contents, content_bytes, pack_count}
 use Rattle.cdtext_packs.proofs.Numbered.{pushed_more, length-pushed, length-kind_contents, pack_begins, part_of_twelve, content_is, track_is}
+use Rattle.cdtext_packs.proofs.WholeTexts.{first_fits, strings_fit}
 use Rattle.cdtext_packs.proofs.pack.push_kind.Goals as goal
 use Rattle.cdtext_packs.proofs.pack.push_kind.Goals.{then-place-eq0, else-place-eq0}
 
@@ -93,3 +97,56 @@ returns c =
     let all : c.loop-k.k ≡ pack_count (strings_of c.args.kind c.args.map.now) =
     omega (arith, c.kind_packs-k-end.ensures.value) in
     c.loop-k.invariant ∙ ap (λ (k : ℕ). old ++ numbered (length old) (map f (below k))) all
+
+pub overflow_cast-k-end : goal.overflow_cast-k-end
+overflow_cast-k-end c = omega (arith, c.kind_packs-k-end.ensures.bound)
+
+pub loop-k-init : goal.loop-k-init
+loop-k-init c = sym (append-nil c.args.packs.now.items)
+
+pub overflow_mul-start : goal.overflow_mul-start
+overflow_mul-start c = omega (arith, c.loop-k-test.true, c.kind_packs-k-end.ensures.bound)
+
+pub overflow_sub-track : goal.overflow_sub-track
+overflow_sub-track c = omega (arith, c.if-place-eq0.false)
+
+pub overflow_cast-position : goal.overflow_cast-position
+overflow_cast-position c = omega (arith, c.min-position.ensures)
+
+pub overflow_add-start : goal.overflow_add-start
+overflow_add-start c = omega (arith, c.loop-k-test.true, c.kind_packs-k-end.ensures.bound)
+
+pub new-requires : goal.new-requires
+new-requires c =
+    omega (
+      arith,
+      length-take (c.min.result - 12 * c.loop-k.k) (drop (12 * c.loop-k.k) c.deref.result.now),
+      c.min.ensures,
+    )
+
+pub returns-in_err-bytes : goal.returns-in_err-bytes
+returns-in_err-bytes c = IfOk-from_err c.from_residual.result _ c.from_residual.ensures.0
+
+pub returns-in_err-push : goal.returns-in_err-push
+returns-in_err-push c =
+    IfOk-from_err c.from_residual-in_err-push.result _ c.from_residual-in_err-push.ensures.0
+
+-- the place of a string
+place_fits : (texts : Texts) (kind : TextKind) (strings : List (List ℕ)) (place : ℕ) → AreTexts texts
+    → strings ≡ strings_of kind texts → place < length strings
+    → place ≤ 99
+place_fits texts kind strings place are is inside =
+    omega (arith, ap length is, (strings_fit texts kind are).count)
+
+pub overflow_cast-track : goal.overflow_cast-track
+overflow_cast-track c =
+    let fits = place_fits c.args.map.now c.args.kind _ _ c.first.ensures.texts
+    c.strings-strings.ensures.strings c.holder-place.ensures.place in
+    omega (arith, fits)
+
+pub overflow_add-track : goal.overflow_add-track
+overflow_add-track c =
+    let fits = place_fits c.args.map.now c.args.kind _ _ c.first.ensures.texts
+    c.strings-strings.ensures.strings c.holder-place.ensures.place in
+    let first = first_fits c.args.map.now c.first.ensures.texts in
+    omega (arith, fits, first, c.first.ensures.number)
