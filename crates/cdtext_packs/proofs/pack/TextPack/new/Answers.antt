@@ -8,22 +8,28 @@ use Rattle.cdtext_packs.specs.Writing.{twelve}
 use Rattle.cdtext_packs.proofs.Seals.{length-twelve}
 use Rattle.cdtext_packs.proofs.pack.TextPack.new.Goals as goal
 
+-- zeros behind a text
+zeros_behind : (n : ℕ) → n ≤ 12
+    → drop {A = ℕ} n (replicate 14 0) ≡ replicate (12 - n) 0 ++ replicate 2 0
+zeros_behind n short =
+    let more : 14 - n ≡ 12 - n + 2 = omega arith in
+    drop-replicate n 14 0 ∙ ap (λ (k : ℕ). replicate k 0) more
+    ∙ sym (replicate-append-replicate (12 - n) 2 0)
+
+filled : (text : List ℕ) → length text ≤ 12 → twelve text 0 ≡ text ++ replicate (12 - length text) 0
+filled text short =
+    let all : length text + (12 - length text) ≡ 12 = omega arith in
+    ap (λ (k : ℕ). take k (text ++ replicate 12 0)) (sym all)
+    ∙ take-append-add text (replicate 12 0) (12 - length text)
+    ∙ ap (λ (xs : List ℕ). text ++ xs) (take-replicate (12 - length text) 12 0 (omega arith))
+
 -- a text, padded with zeros
 padded : (text : List ℕ) → length text ≤ 12
     → text ++ drop (length text) (replicate 14 0) ≡ twelve text 0 ++ 0 ∷ 0 ∷ []
 padded text short =
-    let n = length text in
-    let all : n + (12 - n) ≡ 12 = omega arith in
-    let more : 14 - n ≡ 12 - n + 2 = omega arith in
-    let filled : twelve text 0 ≡ text ++ replicate (12 - n) 0 =
-    ap (λ (k : ℕ). take k (text ++ replicate 12 0)) (sym all)
-    ∙ take-append-add text (replicate 12 0) (12 - n)
-    ∙ ap (λ (xs : List ℕ). text ++ xs) (take-replicate (12 - n) 12 0 (omega arith)) in
-    ap (λ (xs : List ℕ). text ++ xs)
-    (drop-replicate n 14 0 ∙ ap (λ (k : ℕ). replicate k 0) more
-    ∙ sym (replicate-append-replicate (12 - n) 2 0))
-    ∙ sym (append_assoc text (replicate (12 - n) 0) (replicate 2 0))
-    ∙ ap (λ (xs : List ℕ). xs ++ 0 ∷ 0 ∷ []) (sym filled)
+    ap (λ (xs : List ℕ). text ++ xs) (zeros_behind (length text) short)
+    ∙ sym (append_assoc text (replicate (12 - length text) 0) (replicate 2 0))
+    ∙ ap (λ (xs : List ℕ). xs ++ 0 ∷ 0 ∷ []) (sym (filled text short))
 
 content_written : (kind track number position : ℕ) (text head copied : List ℕ) → length text ≤ 12
     → head ≡ kind ∷ track ∷ number ∷ position ∷ [] → copied ≡ text
