@@ -7,11 +7,13 @@ ghost use Rattle.ribjasper_c.specs.Mending.{refusal_of, shape_of, shape_refusal,
 
 use crate::answers::{DAMAGED, DONE, REFUSED, USAGE, WRITE_FAULT};
 use disc_time::MOST_LEAD_IN;
-use rw_mend::{mend_stream, mend_stream_report};
 use raw_subcode::{BLOCK_BYTES, MOST_UNITS};
 use rw_code::SYMBOLS;
 use rw_interleave::whole_packs;
-use rw_mend::{MOST_READINGS, MendCounts, Tallies, mend_readings, mend_report, mend_streams};
+use rw_mend::{
+    MOST_READINGS, MendCounts, Tallies, mend_readings, mend_report, mend_stream,
+    mend_stream_report, mend_streams,
+};
 
 /// The result of mending two readings.
 #[repr(C)]
