@@ -147,9 +147,9 @@ uint64_t ribjasper_time_of_packs(uint32_t packs);
    ribjasper_convert, ribjasper_survey and ribjasper_texts accept sectors.
 
    The packs of a .cdg file may have no valid parity. Do not feed such packs as RIBJASPER_PACKS: usually no codeword is
-   near them, so they draw nothing and count as bad words. (The idle packs of such a file are codewords nevertheless.)
-   ribjasper_packs_parity detects such a file. Either draw its packs with ribjasper_player_draw_all, which ignores
-   parity, or first compute their parity with ribjasper_packs_seal. */
+   near them, so they draw nothing and count as bad words. (Only packs of 24 zeros are codewords nevertheless.) The call
+   ribjasper_packs_parity detects a .cdg file without valid parity. Either draw the packs of this file with
+   ribjasper_player_draw_all, which ignores parity, or first compute their parity with ribjasper_packs_seal. */
 #define RIBJASPER_RAW 0
 #define RIBJASPER_PACKS 1
 #define RIBJASPER_SECTORS 2
@@ -412,9 +412,9 @@ int32_t ribjasper_player_load(ribjasper_player *player, const uint8_t file[RIBJA
 RIBJASPER_NODISCARD int32_t ribjasper_player_copy(const ribjasper_player *from, ribjasper_player *to);
 
 /* Marks make seeking fast. A mark is a copy of a player at one place of a stream, in your own memory. At first, fill
-   all marks with zeros, which means that they are not set. After that, only the calls below may change marks. A list of
-   marks belongs to one stream, with one form and one lead-in. For another stream, fill all marks with zeros again. You
-   may copy a mark byte for byte. */
+   all marks with zeros, which means that they are not set. After that, only the calls below may change marks. Use a list
+   of marks for only one stream, and always with the same form and the same number of lead-in blocks. For another stream,
+   fill all marks with zeros again. You may copy a mark byte for byte. */
 typedef struct ribjasper_mark {
     uint64_t place;       /* how many blocks or packs the player received; 0 if the mark is not set */
     uint64_t state[8135]; /* the state of the player */
@@ -668,11 +668,12 @@ int32_t ribjasper_convert(const uint8_t *stream, size_t length, uint32_t form, u
    second kind is a doubtful codeword at a word at which some reading is quiet.
 
    Of the codewords that count, the result is the one with the smallest distance. If several codewords have this
-   distance, the result is the one that counts in the most readings, at any distance. If there is a tie, there is no
-   result. If no codeword counts, the result is the codeword on which two readings agree. If another pair of readings
-   agrees on a different codeword, there is no result. Two readings agree on a codeword if this sum is at most four:
-   twice the number of symbols that both have equally wrong, plus the number of symbols in which they differ. A reading
-   can agree with another only if it has no codeword at the word, and the word is not unread in it.
+   distance in some reading, the result is the one that counts in the most readings. (Here, its distance in each of
+   these readings does not matter.) If there is a tie, there is no result. If no codeword counts, the result is the
+   codeword on which two readings agree. If another pair of readings agrees on a different codeword, there is no result.
+   Two readings agree on a codeword if this sum is at most four: twice the number of symbols that both have equally
+   wrong, plus the number of symbols in which they differ. A reading can agree with another only if it has no codeword
+   at the word, and the word is not unread in it.
 
    Suppose that a reading has a codeword at distance 0 at every word. Then these codewords are the result, under two
    conditions. First, if another reading has a codeword at distance 0 at a word, this codeword is the same one, or the
@@ -709,10 +710,10 @@ typedef struct ribjasper_mended {
      lead_in: the number of blocks at the start of each reading that are ignored, at most 450,000
      packs, room: the output, and its size in bytes
      result: the counts
-   Returns RIBJASPER_CONVERTED, or RIBJASPER_DAMAGED if some word has no codeword. Otherwise the call writes nothing, and
-   returns the first of these answers that applies. RIBJASPER_USAGE: `lead_in` is out of range. RIBJASPER_TORN: the
-   lengths differ, are not whole blocks, or are more than 1,000,000 blocks. RIBJASPER_NO_ROOM: the output is too small.
-   This call allocates nothing. */
+   Returns RIBJASPER_CONVERTED, or RIBJASPER_DAMAGED if no codeword was chosen for some word. Otherwise the call writes
+   nothing, and returns the first of these answers that applies. RIBJASPER_USAGE: `lead_in` is out of range.
+   RIBJASPER_TORN: the lengths differ, are not whole blocks, or are more than 1,000,000 blocks. RIBJASPER_NO_ROOM: the
+   output is too small. This call allocates nothing. */
 RIBJASPER_NODISCARD
 int32_t ribjasper_mend(const uint8_t *first, size_t first_length, const uint8_t *second, size_t second_length,
                        uint32_t lead_in, uint8_t *packs, size_t room, ribjasper_mended *result);
@@ -745,8 +746,8 @@ typedef struct ribjasper_mended_readings {
        whose codeword was chosen, RIBJASPER_AGREED or RIBJASPER_NO_READING. If you pass null and 0, the call does not
        write this output
      result: the counts
-   Returns RIBJASPER_CONVERTED, or RIBJASPER_DAMAGED if some word has no codeword. Otherwise the call writes nothing,
-   and returns the first of these answers that applies. RIBJASPER_USAGE: `lead_in` or `count` is out of range.
+   Returns RIBJASPER_CONVERTED, or RIBJASPER_DAMAGED if no codeword was chosen for some word. Otherwise the call writes
+   nothing, and returns the first of these answers that applies. RIBJASPER_USAGE: `lead_in` or `count` is out of range.
    RIBJASPER_TORN: the readings are not whole blocks of equal length, or have more than 1,000,000 blocks each.
    RIBJASPER_NO_ROOM: `packs` is too small, or `words` is above 0 and below the number of words. This call allocates
    nothing. */
