@@ -256,7 +256,7 @@ class Page {
     }
 
     #markItem() {
-        [...at("list").querySelectorAll("button")].forEach((button, k) => {
+        [...byId("list").querySelectorAll("button")].forEach((button, k) => {
             if (this.#items[k] === this.#item) {
                 button.setAttribute("aria-current", "true");
             } else {
