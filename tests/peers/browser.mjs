@@ -1,4 +1,4 @@
-// A Chromium without a window, controlled by its debugging protocol.
+// A headless Chromium, controlled over its debugging protocol.
 import assert from "node:assert/strict";
 import { spawn } from "node:child_process";
 import { mkdirSync, writeFileSync } from "node:fs";
@@ -12,26 +12,26 @@ export class Browser {
     #waiting = new Map();
     #number = 0;
     #folder;
-    /** What the browser reported: `{ method, params }`. */
+    /** The events that the browser reported: `{ method, params }`. */
     events = [];
 
     static async start(chromium, folder) {
-        const room = join(folder, "profile");
-        mkdirSync(room);
+        const profile = join(folder, "profile");
+        mkdirSync(profile);
         const child = spawn(chromium, ["--headless", "--no-sandbox", "--disable-gpu", "--mute-audio", "--hide-scrollbars",
-            "--autoplay-policy=no-user-gesture-required", "--remote-debugging-port=0", `--user-data-dir=${room}`,
+            "--autoplay-policy=no-user-gesture-required", "--remote-debugging-port=0", `--user-data-dir=${profile}`,
             "--window-size=1280,1000", "about:blank"], { stdio: ["ignore", "ignore", "pipe"] });
         const address = await new Promise((done, failed) => {
-            let told = "";
+            let printed = "";
             child.stderr.on("data", (piece) => {
-                told += piece;
-                const found = /DevTools listening on ws:\/\/([^/]+)\//.exec(told);
+                printed += piece;
+                const found = /DevTools listening on ws:\/\/([^/]+)\//.exec(printed);
                 if (found) {
                     done(found[1]);
                 }
             });
-            child.on("exit", () => failed(new Error(told)));
-            setTimeout(() => failed(new Error(`Chromium does not answer: ${told}`)), 60_000).unref();
+            child.on("exit", () => failed(new Error(printed)));
+            setTimeout(() => failed(new Error(`Chromium does not answer: ${printed}`)), 60_000).unref();
         });
         const tabs = await (await fetch(`http://${address}/json/list`)).json();
         const browser = new Browser();
@@ -68,7 +68,7 @@ export class Browser {
         return new Promise((done, failed) => { this.#waiting.set(id, { done, failed }); });
     }
 
-    /** The value of an expression in the page. */
+    /** Evaluates an expression in the page. */
     async value(expression, userGesture = false) {
         const { result, exceptionDetails } = await this.send("Runtime.evaluate",
             { expression, awaitPromise: true, returnByValue: true, userGesture });
@@ -76,6 +76,7 @@ export class Browser {
         return result.value;
     }
 
+    /** Waits until an expression is true in the page. */
     async until(expression, seconds = 60) {
         for (let tries = 0; tries < 20 * seconds; tries += 1) {
             if (await this.value(expression)) {
@@ -83,9 +84,10 @@ export class Browser {
             }
             await wait(50);
         }
-        throw new Error(`it does not come: ${expression}; the page says: ${await this.value("document.body.innerText")}`);
+        throw new Error(`timeout: ${expression} is still false; the page shows: ${await this.value("document.body.innerText")}`);
     }
 
+    /** Waits for an event of the browser, and returns its parameters. */
     async event(method, seconds = 30) {
         for (let tries = 0; tries < 20 * seconds; tries += 1) {
             const found = this.events.find((it) => it.method === method);
@@ -94,7 +96,7 @@ export class Browser {
             }
             await wait(50);
         }
-        throw new Error(`no ${method} comes`);
+        throw new Error(`timeout: the browser sent no ${method}`);
     }
 
     async visit(page) {
@@ -102,7 +104,7 @@ export class Browser {
         await this.until("globalThis.page !== undefined");
     }
 
-    /** Chooses files, and returns the message of the page after they were opened. */
+    /** Opens files with the file dialog of the page, and returns the message that the page shows afterwards. */
     async open(...files) {
         await this.value("document.getElementById('message').textContent = ''");
         const { root } = await this.send("DOM.getDocument");
@@ -120,7 +122,7 @@ export class Browser {
         await this.send("Input.dispatchKeyEvent", { type: "keyUp", ...params });
     }
 
-    /** The middle of an element, or a share of its width. */
+    /** The coordinates of a point in an element: half its height, and a share of its width. */
     async place(id, share = 0.5) {
         const [x, y, width, height] = await this.value(`(() => {
             const box = document.getElementById(${JSON.stringify(id)}).getBoundingClientRect();

@@ -1,10 +1,10 @@
-// Takes the pictures of pages in docs: web.png, the player of lib/web with a damaged stream, and look.png, the page of `look`
-// with the duet of examples.
+// Makes two screenshots for docs: web.png shows the player of lib/web with a damaged stream, and look.png shows the page of
+// `ribjasper-desk look` with the duet of examples.
 //
 //     node --experimental-websocket tests/peers/page_pictures.mjs CHROMIUM FOLDER
 //
-// CHROMIUM is a program, FOLDER an empty folder, in which web.png and look.png are left. It needs bin/, lib/ and lib/web (`make`,
-// `make library`, `make web`) and what `ribjasper-desk look` needs.
+// CHROMIUM is the browser's program. FOLDER is an empty folder, which receives web.png and look.png. The script needs bin/, lib/
+// and lib/web (`make`, `make library`, `make web`) and the requirements of `ribjasper-desk look`.
 import assert from "node:assert/strict";
 import { spawnSync } from "node:child_process";
 import { writeFileSync } from "node:fs";
@@ -23,28 +23,28 @@ function run(program, ...words) {
     return stdout;
 }
 
-// Pseudo-random numbers, the same each time.
+// A fixed seed makes the same screenshot each time.
 let state = 1;
-function chance(most) {
+function randomBelow(bound) {
     state = (Math.imul(state, 1_103_515_245) + 12_345) >>> 0;
-    return (state >>> 8) % most;
+    return (state >>> 8) % bound;
 }
 
-/** The stream of the examples with single wrong symbols, and with a scratch in which every word is lost. */
-function damaged() {
+/** The stream of the examples with single wrong symbols and one scratch that destroys every word in it. */
+function damagedStream() {
     const examples = ["hello.cue", "hello.script"].map((name) => join(TOP, "examples", name));
     const words = ["author", "--lead-in", `${LEAD_IN}`, "--length", "00:22:00", "--", ...examples];
     const stream = run(join(TOP, "bin", "ribjasper"), ...words).subarray(BLOCK * LEAD_IN);
     for (let at = 0; at < stream.length; at += 1) {
         const isScratch = at >= BLOCK * 900 && at < BLOCK * 960;
-        if (isScratch || chance(150) === 0) {
-            stream[at] ^= 1 + chance(63);
+        if (isScratch || randomBelow(150) === 0) {
+            stream[at] ^= 1 + randomBelow(63);
         }
     }
     return stream;
 }
 
-/** Silence of this length as a WAV file. */
+/** A WAV file with silence. */
 function silence(seconds) {
     const samples = 4 * RATE * seconds, head = Buffer.alloc(44);
     head.write("RIFF", 0);
@@ -62,8 +62,8 @@ function silence(seconds) {
     return Buffer.concat([head, Buffer.alloc(samples)]);
 }
 
-async function player(browser) {
-    writeFileSync(join(FOLDER, "song.raw"), damaged());
+async function photographPlayer(browser) {
+    writeFileSync(join(FOLDER, "song.raw"), damagedStream());
     await browser.look(1000, 880, "dark");
     await browser.visit(join(TOP, "lib", "web", "index.html"));
     await browser.open("song.raw");
@@ -72,7 +72,7 @@ async function player(browser) {
     await browser.photograph("web");
 }
 
-async function song(browser) {
+async function photographSong(browser) {
     const [sound, page] = ["song.wav", "look.html"].map((name) => join(FOLDER, name));
     writeFileSync(sound, silence(54));
     const lyrics = join(TOP, "examples", "album", "duet.lrc");
@@ -87,8 +87,8 @@ async function song(browser) {
 
 const browser = await Browser.start(CHROMIUM, FOLDER);
 try {
-    await player(browser);
-    await song(browser);
+    await photographPlayer(browser);
+    await photographSong(browser);
 } finally {
     browser.stop();
 }

@@ -1,5 +1,5 @@
-// What a web developer would write in a hundred lines: a player of CD+G without proofs and without error correction. The
-// measurements of tests/peers/test_web.mjs compare with it.
+// A plain CD+G player, as a web developer would write it in a hundred lines: no proofs and no error correction. The benchmark in
+// tests/peers/test_web.mjs measures it against the module.
 
 const WIDTH = 300;
 const HEIGHT = 216;
@@ -14,7 +14,7 @@ export class PlainPlayer {
     v = 0;
     slots = [];
 
-    /** Reads the four slots of a block, and draws the packs that are complete then. */
+    /** Reads the four slots of a block, and draws each pack that they complete. */
     feed(block) {
         for (let slot = 0; slot < 4; slot += 1) {
             this.slots.push(block.slice(24 * slot, 24 * slot + 24));
@@ -105,7 +105,7 @@ export class PlainPlayer {
         }
     }
 
-    /** Writes the picture, four bytes per pixel. */
+    /** Writes the picture with four bytes per pixel. */
     picture(bytes) {
         const pixels = new Uint32Array(bytes.buffer, bytes.byteOffset, WIDTH * HEIGHT);
         for (let y = 0; y < HEIGHT; y += 1) {

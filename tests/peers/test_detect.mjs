@@ -1,10 +1,10 @@
-// The form that the page detects for a file (examples/web/detect.mjs), and the files that it plays together (items.mjs), in
-// Node. The dumps and the expected results come from the tests of the desk (desk/tests/known_dumps.py), which share no code
-// with the library, the desk or the page.
+// Tests two modules of the page in Node: detect.mjs of examples/web, which detects the form of a file, and items.mjs, which chooses
+// the files to play together. The dumps and the expected results come from the tests of the desk (desk/tests/known_dumps.py),
+// which share no code with the library, the desk or the page.
 //
 //     node [--experimental-wasm-memory64] tests/peers/test_detect.mjs MODULE FOLDER
 //
-// MODULE is lib/web/ribjasper.wasm, which stands beside ribjasper.mjs.
+// MODULE is lib/web/ribjasper.wasm; ribjasper.mjs is in the same folder. FOLDER is an empty folder to work in.
 import assert from "node:assert/strict";
 import { spawnSync } from "node:child_process";
 import { readFileSync } from "node:fs";
@@ -19,7 +19,7 @@ import { zipOf } from "./zips.mjs";
 const TOP = join(dirname(fileURLToPath(import.meta.url)), "..", "..");
 const [MODULE, FOLDER] = process.argv.slice(2);
 
-/** Writes the known dumps, except those with another order of bits, or with a header that the file length does not reveal. */
+/** Writes the known dumps, except those with another bit order and those with a header that the file length does not reveal. */
 const WRITE = `
 import json, sys
 sys.path.insert(0, sys.argv[1] + "/desk/tests")
@@ -37,17 +37,17 @@ json.dump(made, open("dumps.json", "w"))
 `;
 
 async function compareDumps(ribjasper) {
-    const ran = spawnSync("python3", ["-c", WRITE, TOP], { cwd: FOLDER, encoding: "utf8" });
-    assert.equal(ran.status, 0, ran.stderr);
+    const result = spawnSync("python3", ["-c", WRITE, TOP], { cwd: FOLDER, encoding: "utf8" });
+    assert.equal(result.status, 0, result.stderr);
     const dumps = JSON.parse(readFileSync(join(FOLDER, "dumps.json"), "utf8"));
     const wrong = [];
-    for (const [file, name, form, leadIn, called] of dumps) {
+    for (const [file, name, form, leadIn, fileName] of dumps) {
         const blob = new Blob([readFileSync(join(FOLDER, file))]);
         const { found } = await formOf(ribjasper, blob);
-        const said = called.toLowerCase().endsWith(".cdg") && found?.form.name === "cooked" ? "cdg" : found?.form.name;
-        // A file of packs with parity fits both forms; its name decides on the page.
-        if (said !== form && !(form === "cdg" && said === "cooked")) {
-            wrong.push(`${name}: ${said} and not ${form}`);
+        const detected = fileName.toLowerCase().endsWith(".cdg") && found?.form.name === "cooked" ? "cdg" : found?.form.name;
+        // A file of packs with parity fits both forms; the page decides by its name.
+        if (detected !== form && !(form === "cdg" && detected === "cooked")) {
+            wrong.push(`${name}: ${detected} instead of ${form}`);
             continue;
         }
         if (!["raw", "planar"].includes(found.form.coding)) {
@@ -55,26 +55,26 @@ async function compareDumps(ribjasper) {
         }
         const units = new Uint8Array(await blob.slice(found.skip).arrayBuffer());
         const whole = units.subarray(0, units.length - (units.length % found.form.unit));
-        const lead = (await leadInOfSurvey(ribjasper.survey(subcodeOf(ribjasper, whole, found.form)))) ?? 0;
-        if (lead !== leadIn) {
-            wrong.push(`${name}: a lead-in of ${lead} and not ${leadIn}`);
+        const detectedLeadIn = (await leadInOfSurvey(ribjasper.survey(subcodeOf(ribjasper, whole, found.form)))) ?? 0;
+        if (detectedLeadIn !== leadIn) {
+            wrong.push(`${name}: a lead-in of ${detectedLeadIn} instead of ${leadIn}`);
         }
     }
     assert.deepEqual(wrong, []);
     assert.ok(dumps.length > 40);
-    console.log(`test_detect: the form and the lead-in of ${dumps.length} known dumps are found`);
+    console.log(`test_detect: the form and the lead-in of ${dumps.length} known dumps are detected`);
 }
 
 const entry = (path, size = 100) => ({ path, file: new File([new Uint8Array(size)], path.split("/").at(-1)) });
 
-/** The items of files of these names, as "graphics + sound". */
+/** The items that the page makes of files with these names, as "graphics + sound". */
 async function itemsFor(...paths) {
     const { entries } = await entriesOf(paths.map((it) => entry(it)));
     return itemsOf(entries).map(({ graphics, sound, image }) => [graphics.name, (sound ?? image)?.name].filter((it) => it !== undefined).join(" + "));
 }
 
 async function comparePairs() {
-    for (const [files, wanted] of [
+    for (const [files, expected] of [
         [["A.cdg", "A.mp3"], ["A.cdg + A.mp3"]],
         [["B.mp3", "A.cdg", "A.mp3", "B.cdg"], ["A.cdg + A.mp3", "B.cdg + B.mp3"]],
         [["song.CDG", "Song.MP3"], ["song.CDG + Song.MP3"]],
@@ -94,7 +94,7 @@ async function comparePairs() {
         [["x.cdg", "x.wav", "x.mp3"], ["x.cdg + x.wav"]],
         [["..cdg", ".mp3"], ["..cdg"]],
     ]) {
-        assert.deepEqual(await itemsFor(...files), wanted, files.join(" "));
+        assert.deepEqual(await itemsFor(...files), expected, files.join(" "));
     }
     // The files of a zip are in their own folder.
     const zip = zipOf([{ name: "B.mp3", bytes: Buffer.alloc(9) }, { name: "A.cdg", bytes: Buffer.alloc(24) }, { name: "A.mp3", bytes: Buffer.alloc(9) },
@@ -102,10 +102,10 @@ async function comparePairs() {
     const { entries } = await entriesOf([{ path: "pairs.zip", file: new File([zip], "pairs.zip") }]);
     assert.deepEqual(itemsOf(entries).map(({ graphics, sound }) => [graphics.folder, graphics.name, sound.name]),
         [["pairs.zip/", "A.cdg", "A.mp3"], ["pairs.zip/", "B.cdg", "B.mp3"]]);
-    console.log("test_detect: pairs are made by their names");
+    console.log("test_detect: files are paired by their names");
 }
 
-/** The audio of sectors is unchanged, behind the header of a .wav file. */
+/** The .wav file of an image has the unchanged audio of its sectors behind its header. */
 async function compareSounds() {
     const [sectors, audio] = [9000, 2352];
     const samples = Buffer.from(Array.from({ length: audio * 50 }, (_, k) => (k * 7 + (k >> 8)) & 0xff));
@@ -131,10 +131,10 @@ async function compareSounds() {
         assert.deepEqual(await tracksOf(sheet(name, text)), { isAudio, isSwapped }, text);
     }
     assert.deepEqual(await tracksOf(undefined), { isAudio: true, isSwapped: false });
-    console.log("test_detect: the sound of images is that of their sectors");
+    console.log("test_detect: the sound of images equals the audio of their sectors");
 }
 
-/** Noise of any length is no dump; sheets of noise have no facts. */
+/** Noise of any length is not detected as a dump, and a sheet of noise swaps no bytes. */
 async function compareNoise(ribjasper) {
     let seed = 3;
     const noise = (size, mask = 255) => Uint8Array.from({ length: size }, () => {
@@ -154,7 +154,7 @@ async function compareNoise(ribjasper) {
     }
     assert.equal((await formOf(ribjasper, new Blob([]))).why, "it is empty");
     assert.equal((await formOf(ribjasper, new Blob([new Uint8Array(3_000_000)]))).why, "all its bytes are zeros");
-    console.log("test_detect: noise is no dump");
+    console.log("test_detect: noise is not detected as a dump");
 }
 
 const ribjasper = await load(readFileSync(MODULE));

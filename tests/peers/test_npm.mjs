@@ -1,9 +1,9 @@
-// The npm package in Node, in a bundle and in a page: its picture must equal that of the program.
+// Tests the npm package in Node, in a bundle and in a page: its picture must equal the program's.
 //
 //     node tests/peers/test_npm.mjs FOLDER PICTURE [ESBUILD] [CHROMIUM]
 //
-// FOLDER is one in which the package was installed, with a stream named `stream`. PICTURE is the program's pixmap after all of
-// its blocks. The names of the tools may be empty; tests whose tool is missing are skipped.
+// The package is installed in FOLDER, which also has a stream named `stream`. PICTURE is the program's pixmap after all blocks of
+// this stream. ESBUILD and CHROMIUM are programs; a test whose program is missing or empty is skipped.
 import assert from "node:assert/strict";
 import { execFileSync } from "node:child_process";
 import { createHash } from "node:crypto";
@@ -13,9 +13,9 @@ import { extname, join } from "node:path";
 
 const [FOLDER, PICTURE, ESBUILD, CHROMIUM] = process.argv.slice(2);
 const HEAD = "P6\n300 216\n255\n".length;
-const wanted = createHash("sha256").update(readFileSync(PICTURE).subarray(HEAD)).digest("hex");
+const expected = createHash("sha256").update(readFileSync(PICTURE).subarray(HEAD)).digest("hex");
 
-/** The text of a function that computes the SHA-256 of the picture, for Node, bundles and pages. */
+/** The source of a function that computes the SHA-256 of the picture. Node, the bundle and the page run it. */
 const DIGEST = `
 async function digest(ribjasper, stream) {
     const player = ribjasper.player();
@@ -25,7 +25,7 @@ async function digest(ribjasper, stream) {
     return Array.from(sum, (byte) => byte.toString(16).padStart(2, "0")).join("");
 }`;
 
-function run(words) {
+function runNode(words) {
     return execFileSync(process.execPath, words, { cwd: FOLDER }).toString().trim();
 }
 
@@ -33,25 +33,26 @@ writeFileSync(join(FOLDER, "in_node.mjs"), `import { load } from "ribjasper";
 import { readFileSync } from "node:fs";
 ${DIGEST}
 console.log(await digest(await load(), readFileSync("stream")));`);
-assert.equal(run(["in_node.mjs"]), wanted, "the picture in Node");
-console.log("test_npm: the picture in Node is that of the program");
+assert.equal(runNode(["in_node.mjs"]), expected, "the picture in Node");
+console.log("test_npm: the picture in Node equals the program's");
 
 if (ESBUILD) {
-    // For pages, and run in Node, which has all functions that it needs; without the bytes it must be bundled too.
+    // The bundle is made for pages, but Node can run it: Node has all functions that it needs. `withoutBytes` checks that a call of
+    // `load` without bytes can be bundled too.
     writeFileSync(join(FOLDER, "bundled.mjs"), `import { load } from "ribjasper";
 import bytes from "ribjasper/ribjasper.wasm";
 ${DIGEST}
 globalThis.picture = (stream) => load(bytes).then((it) => digest(it, stream));
-globalThis.beside = () => load();`);
+globalThis.withoutBytes = () => load();`);
     const words = ["--bundle", "--format=esm", "--platform=browser", "--minify", "--loader:.wasm=binary", "--log-level=warning"];
     execFileSync(ESBUILD, [...words, "bundled.mjs", "--outfile=bundle.mjs"], { cwd: FOLDER });
     writeFileSync(join(FOLDER, "of_bundle.mjs"), `import "./bundle.mjs";
 import { readFileSync } from "node:fs";
 console.log(await globalThis.picture(readFileSync("stream")));`);
-    assert.equal(run(["of_bundle.mjs"]), wanted, "the picture of a bundle");
-    console.log("test_npm: esbuild bundles the package, and its picture is that of the program");
+    assert.equal(runNode(["of_bundle.mjs"]), expected, "the picture of a bundle");
+    console.log("test_npm: esbuild bundles the package, and the picture of the bundle equals the program's");
 } else {
-    console.log("test_npm: the bundle is skipped, there is no esbuild");
+    console.log("test_npm: the bundle is skipped: no esbuild is given");
 }
 
 if (CHROMIUM) {
@@ -61,25 +62,25 @@ if (CHROMIUM) {
 import { load } from "ribjasper";
 ${DIGEST}
 const stream = new Uint8Array(await (await fetch("stream")).arrayBuffer());
-await fetch("told?" + await digest(await load(), stream).catch((error) => "error " + error));
+await fetch("result?" + await digest(await load(), stream).catch((error) => "error " + error));
 </script>`);
     const kinds = { ".html": "text/html", ".mjs": "text/javascript", ".wasm": "application/wasm" };
-    let tell;
-    const told = new Promise((resolve) => { tell = resolve; });
-    const server = createServer((request, answer) => {
+    let report;
+    const reported = new Promise((resolve) => { report = resolve; });
+    const server = createServer((request, response) => {
         const { pathname, search } = new URL(request.url, "http://localhost");
-        if (pathname === "/told") {
-            tell(search.slice(1));
-            answer.end();
+        if (pathname === "/result") {
+            report(search.slice(1));
+            response.end();
             return;
         }
         try {
             const content = readFileSync(join(FOLDER, pathname));
-            answer.setHeader("Content-Type", kinds[extname(pathname)] ?? "application/octet-stream");
-            answer.end(content);
+            response.setHeader("Content-Type", kinds[extname(pathname)] ?? "application/octet-stream");
+            response.end(content);
         } catch {
-            answer.statusCode = 404;
-            answer.end();
+            response.statusCode = 404;
+            response.end();
         }
     });
     await new Promise((resolve) => { server.listen(0, "127.0.0.1", resolve); });
@@ -87,14 +88,14 @@ await fetch("told?" + await digest(await load(), stream).catch((error) => "error
     const page = `http://127.0.0.1:${server.address().port}/page.html`;
     const browser = spawn(CHROMIUM, ["--headless", "--no-sandbox", "--disable-gpu", `--user-data-dir=${join(FOLDER, "profile")}`, page],
         { stdio: "ignore" });
-    const patience = setTimeout(() => tell("nothing within two minutes"), 120_000);
-    const answer = await told;
-    clearTimeout(patience);
+    const timeout = setTimeout(() => report("no answer within two minutes"), 120_000);
+    const result = await reported;
+    clearTimeout(timeout);
     browser.kill("SIGKILL");
     server.close();
     server.closeAllConnections();
-    assert.equal(answer, wanted, "the picture in a page");
-    console.log("test_npm: the picture in a page of Chromium is that of the program");
+    assert.equal(result, expected, "the picture in a page");
+    console.log("test_npm: the picture in a page of Chromium equals the program's");
 } else {
-    console.log("test_npm: the page is skipped, there is no Chromium");
+    console.log("test_npm: the page is skipped: no Chromium is given");
 }

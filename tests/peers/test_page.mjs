@@ -1,9 +1,10 @@
-// The page of examples/web in Chromium without a window: files are opened, played and sought, and the page must show the
-// screens of the program. Each control, the keyboard, touch and the texts for screen readers are tried too.
+// Tests the page of examples/web in a headless Chromium. It opens files, plays them and seeks in them, and compares the picture of
+// the page with the program's screens. It also tests each control, the keyboard, touch and the texts for screen readers.
 //
 //     node --experimental-websocket tests/peers/test_page.mjs CHROMIUM PROGRAM PAGE FOLDER
 //
-// CHROMIUM and PROGRAM are programs, PAGE is lib/web/index.html, FOLDER an empty folder, in which screenshots are left.
+// CHROMIUM and PROGRAM are programs, PAGE is lib/web/index.html. FOLDER is an empty folder, which receives screenshots. The optional
+// environment variable ONLY has the names of some tests with commas between them; only these are run.
 import assert from "node:assert/strict";
 import { spawnSync } from "node:child_process";
 import { existsSync, mkdirSync, readFileSync, statSync, writeFileSync } from "node:fs";
@@ -23,7 +24,7 @@ const PACK = 24;
 const LEAST_CONTRAST = 4.5;
 const LEAST_GRAPHICS_CONTRAST = 3;
 
-/** The output of the program. It may report damage, and nothing else. */
+/** The output of the program. Its exit status must be 0, or 1, which reports damage. */
 function run(input, ...words) {
     const { status, stdout, stderr } = spawnSync(PROGRAM, words, { input, cwd: FOLDER, maxBuffer: 1 << 30 });
     assert.ok(status === 0 || status === 1, `${words.join(" ")}: ${stderr}`);
@@ -53,7 +54,8 @@ function moment(seconds) {
 
 const screenOf = (stream, seconds, leadIn = 0) => run(stream, "screen", "--lead-in", `${leadIn}`, "--at", moment(seconds)).subarray(15);
 
-async function expect(browser, stream, seconds, what, leadIn = 0) {
+/** Checks the picture of the page at a time. */
+async function expectScreen(browser, stream, seconds, what, leadIn = 0) {
     await browser.value(`page.jump(${seconds})`);
     assert.equal(Buffer.compare(await canvas(browser), screenOf(stream, seconds, leadIn)), 0, `${what} at ${seconds} seconds`);
 }
@@ -74,7 +76,7 @@ function tone(seconds) {
     return Buffer.concat([header.subarray(0, 44), samples]);
 }
 
-/** An image: the units of a stream behind audio. */
+/** An image with the subcode of each block behind its audio. */
 function imageOf(subcode) {
     const sectors = Buffer.alloc((subcode.length / BLOCK) * SECTOR, 0x5a);
     for (let b = 0; b < subcode.length / BLOCK; b += 1) {
@@ -83,13 +85,13 @@ function imageOf(subcode) {
     return sectors;
 }
 
-function put(all) {
-    for (const [name, bytes] of Object.entries(all)) {
+function writeFiles(contents) {
+    for (const [name, bytes] of Object.entries(contents)) {
         writeFileSync(join(FOLDER, name), bytes);
     }
 }
 
-function files() {
+function writeSongs() {
     for (const name of ["hello.cue", "hello.script"]) {
         writeFileSync(join(FOLDER, name), readFileSync(join(TOP, "examples", name)));
     }
@@ -99,7 +101,7 @@ function files() {
     // A scratch that is too long for any correction.
     scratched.fill(0x2a, BLOCK * 900, BLOCK * 960);
     const packs = run(whole, "convert", "--lead-in", "0");
-    put({
+    writeFiles({
         "song.raw": scratched,
         "song.sub": run(whole, "planar"),
         "song.img": imageOf(whole),
@@ -111,56 +113,57 @@ function files() {
     return { whole, scratched, packs, disc };
 }
 
-// ---- what is shown
+// ---- the picture
 
 async function tryStreams(browser, { whole, scratched, packs }) {
-    const told = await browser.open("song.raw");
+    const message = await browser.open("song.raw");
     const numbers = new Map(run(scratched, "check", "--lead-in", "0").toString().trim().split("\n").map((line) => line.split(" ")));
     for (const word of ["clean", "one", "two", "bad"]) {
-        assert.ok(told.includes(`${numbers.get(word)} `), `${word} ${numbers.get(word)}: ${told}`);
+        assert.ok(message.includes(`${numbers.get(word)} `), `${word} ${numbers.get(word)}: ${message}`);
     }
     for (const seconds of [3, 7, 7.14, 14.5, 21.9, 6, 0.5, 18, 7.14]) {
-        await expect(browser, scratched, seconds, "a scratched stream");
+        await expectScreen(browser, scratched, seconds, "a scratched stream");
     }
     for (const [name, form] of [["song.sub", "planar"], ["song.img", "2,448"]]) {
         assert.ok((await browser.open(name)).includes(form), name);
         for (const seconds of [7.14, 20, 2]) {
-            await expect(browser, whole, seconds, name);
+            await expectScreen(browser, whole, seconds, name);
         }
     }
-    put({ "planar.img": imageOf(run(whole, "planar")) });
+    writeFiles({ "planar.img": imageOf(run(whole, "planar")) });
     assert.match(await browser.open("planar.img"), /2,448 bytes, their subcode planar/);
-    await expect(browser, whole, 7.14, "an image with planar subcode");
-    // In a stream, a pack is shown seven packs later: block 751 shows the first 2,997.
+    await expectScreen(browser, whole, 7.14, "an image with planar subcode");
+    // A stream shows each pack seven packs later: block 751 shows the first 2,997 packs.
     await browser.open("song.cdg");
     await browser.value("page.jump(2997.5 / 300)");
     assert.equal(Buffer.compare(await canvas(browser), screenOf(whole, 751 / 75)), 0, "a .cdg file");
-    // A torn stream is played, and the page says so.
+    // The page plays a torn stream and reports that it is torn.
     assert.match(await browser.open("broken.raw"), /torn: 91 bytes/);
-    await expect(browser, whole, 7.14, "a torn stream");
-    put({ "torn.cdg": packs.subarray(0, packs.length - 1), "noise.bin": Buffer.from(Array.from({ length: 9600 }, (_, k) => (k * k * 31) % 251)),
+    await expectScreen(browser, whole, 7.14, "a torn stream");
+    writeFiles({ "torn.cdg": packs.subarray(0, packs.length - 1),
+        "noise.bin": Buffer.from(Array.from({ length: 9600 }, (_, k) => (k * k * 31) % 251)),
         "zeros.raw": Buffer.alloc(9600), "empty.cdg": Buffer.alloc(0) });
     assert.match(await browser.open("torn.cdg"), /torn: 23 bytes/);
     assert.match(await browser.open("noise.bin"), /noise\.bin cannot be played: no known form/);
     assert.match(await browser.open("zeros.raw"), /all its bytes are zeros/);
     assert.match(await browser.open("empty.cdg"), /no graphics/);
-    return "streams, images and packs are shown as the program shows them";
+    return "the page shows streams, images and packs as the program does";
 }
 
 async function tryLeadIns(browser, { disc }) {
     for (const leadIn of [30, 300]) {
         const stream = disc(leadIn);
-        put({ "hello.raw": stream, "hello.sub": run(stream, "planar"), "hello.img": imageOf(stream) });
+        writeFiles({ "hello.raw": stream, "hello.sub": run(stream, "planar"), "hello.img": imageOf(stream) });
         for (const name of ["hello.raw", "hello.sub", "hello.img"]) {
-            const told = await browser.open(name);
-            assert.match(told, new RegExp(`lead-in: ${leadIn} blocks, by Q`), name);
-            assert.match(told, /, 0 bad; Q frames/, name);
+            const message = await browser.open(name);
+            assert.match(message, new RegExp(`lead-in: ${leadIn} blocks, by Q`), name);
+            assert.match(message, /, 0 bad; Q frames/, name);
             for (const seconds of [0, 7.14, 20]) {
-                await expect(browser, stream, seconds, `${name} behind ${leadIn} blocks`, leadIn);
+                await expectScreen(browser, stream, seconds, `${name} behind ${leadIn} blocks`, leadIn);
             }
         }
     }
-    // The user can set the lead-in, and the page then reads the stream as the program does.
+    // The user can set the lead-in. The page then reads the stream as the program does.
     await browser.open("hello.raw");
     assert.equal(await browser.value(`${byId("lead-in")}.value`), "300");
     const set = async (leadIn) => {
@@ -173,30 +176,31 @@ async function tryLeadIns(browser, { disc }) {
     const bad = /^bad (\d+)$/m.exec(run(stream, "check", "--lead-in", "0").toString())[1];
     assert.ok(Number(bad) > 0);
     assert.match(await set(0), new RegExp(`, ${bad} bad; .*lead-in: 0 blocks, as you set it`));
-    await expect(browser, stream, 5, "a stream whose lead-in is played", 0);
+    await expectScreen(browser, stream, 5, "a stream whose lead-in is played", 0);
     assert.match(await set(-1), /whole number/);
     assert.match(await set(1.5), /whole number/);
     assert.match(await set(300), /, 0 bad; /);
-    await expect(browser, stream, 5, "a stream whose lead-in is set again", 300);
-    return "lead-ins are found by Q, and can be set";
+    await expectScreen(browser, stream, 5, "a stream whose lead-in is restored", 300);
+    return "lead-ins are detected from Q, and can be set";
 }
 
 async function tryStreamsWithoutQ(browser, { whole }) {
     const silent = whole.map((byte) => byte & 0x3f);
-    put({ "silent.sub": run(silent, "planar"), "silent.raw": silent });
+    writeFiles({ "silent.sub": run(silent, "planar"), "silent.raw": silent });
     for (const [name, form] of [["silent.sub", "planar"], ["silent.raw", "raw subcode"]]) {
-        const told = await browser.open(name);
-        assert.ok(told.includes(form), told);
-        assert.match(told, /lead-in: unknown/);
-        await expect(browser, whole, 7.14, name);
+        const message = await browser.open(name);
+        assert.ok(message.includes(form), message);
+        assert.match(message, /lead-in: unknown/);
+        await expectScreen(browser, whole, 7.14, name);
     }
-    return "a stream without Q is told by its words, planar or raw";
+    return "a stream without Q is detected from its words, planar or raw";
 }
 
 // ---- sound and time
 
 async function trySound(browser, { packs }) {
-    put({ "short.cdg": packs.subarray(0, PACK * 900), "short.wav": tone(20), "long.cdg": packs.subarray(0, PACK * 6000), "long.wav": tone(2) });
+    writeFiles({ "short.cdg": packs.subarray(0, PACK * 900), "short.wav": tone(20),
+        "long.cdg": packs.subarray(0, PACK * 6000), "long.wav": tone(2) });
     const state = (expression) => browser.value(expression);
     // Sound of twenty seconds with graphics of three: the last picture remains until the sound ends.
     await browser.open("short.cdg", "short.wav");
@@ -211,7 +215,7 @@ async function trySound(browser, { packs }) {
     await browser.until("!page.isPlaying");
     assert.equal(await state(`${byId("play")}.textContent`), "Play");
     assert.ok(Math.abs(await state("page.now") - 20) < 0.2);
-    assert.equal(Buffer.compare(await canvas(browser), last), 0, "the last picture stands");
+    assert.equal(Buffer.compare(await canvas(browser), last), 0, "the last picture stays on the screen");
     // At the end, playing starts from the beginning.
     await browser.click("play");
     await browser.until("page.isPlaying && page.now > 0.1 && page.now < 15");
@@ -230,7 +234,7 @@ async function trySound(browser, { packs }) {
     await browser.value("page.jump(19)");
     await browser.until("!page.isPlaying");
     assert.deepEqual(await state(`[${byId("play")}.textContent, page.now]`), ["Play", 20]);
-    // Back into the sound, and beyond its end.
+    // Jumps back into the sound, and beyond its end.
     await browser.value("page.jump(1)");
     await browser.click("play");
     await browser.until("page.now > 1.2");
@@ -240,7 +244,7 @@ async function trySound(browser, { packs }) {
     await browser.until("page.now > 8.1 && document.querySelector('audio').paused");
     await browser.click("play");
     // A sound that cannot be played is reported, and the graphics play without it.
-    put({ "long.wav": Buffer.alloc(5000, 7) });
+    writeFiles({ "long.wav": Buffer.alloc(5000, 7) });
     await browser.open("long.cdg", "long.wav");
     await browser.until(`${byId("message")}.textContent.includes("cannot play the sound")`);
     await browser.click("play");
@@ -250,7 +254,7 @@ async function trySound(browser, { packs }) {
 }
 
 async function tryControls(browser) {
-    put({ "song.wav": tone(22) });
+    writeFiles({ "song.wav": tone(22) });
     await browser.open("song.cdg", "song.wav");
     await browser.until("document.querySelector('audio').duration === 22");
     const choose = (id, value, event) => browser.value(`${byId(id)}.value = "${value}"; ${byId(id)}.dispatchEvent(new Event("${event}"))`);
@@ -267,32 +271,33 @@ async function tryControls(browser) {
         const [after, to] = await browser.value("[page.now, performance.now()]");
         return (1000 * (after - before)) / (to - from);
     };
-    // On a busy machine, sound stops from time to time.
-    const found = await rate();
-    assert.ok(found > 1.4 && found < 2.4, `at speed 2 the sound plays at ${found}`);
-    // The next file keeps speed and volume, also without a sound.
+    // The limits are wide, since sound stops from time to time on a busy machine.
+    const measured = await rate();
+    assert.ok(measured > 1.4 && measured < 2.4, `at speed 2 the sound plays at ${measured}`);
+    // The next file keeps speed and volume, even without sound.
     await browser.open("song.cdg");
     await browser.until("page.isPlaying && page.now > 0.1");
     assert.ok(Math.abs(await rate() - 2) < 0.2);
     await choose("speed", "1", "change");
     await choose("volume", 100, "input");
     await browser.click("play");
-    // Full screen, by a click.
+    // A click on the button turns on full screen.
     await browser.click("full");
     await browser.until("document.fullscreenElement?.id === 'player'");
     await browser.until(`${byId("full")}.textContent === "Leave full screen"`);
     await browser.photograph("full");
-    // While the page plays, the controls are hidden, and any movement shows them again.
-    const isSeen = (id) => browser.value(`${byId(id)}.checkVisibility()`);
+    // While the page plays, the controls are hidden. Any movement or key shows them again.
+    const isVisible = (id) => browser.value(`${byId(id)}.checkVisibility()`);
     await browser.click("play");
     await browser.until(`!${byId("play")}.checkVisibility()`);
-    assert.deepEqual([await isSeen("screen"), await isSeen("line")], [true, false]);
+    assert.deepEqual([await isVisible("screen"), await isVisible("line")], [true, false]);
     await browser.photograph("idle");
     await browser.send("Input.dispatchMouseEvent", { type: "mouseMoved", x: 300, y: 300 });
     await browser.until(`${byId("play")}.checkVisibility()`);
     await browser.until(`!${byId("play")}.checkVisibility()`);
     await browser.press("Tab");
-    assert.ok(await browser.value(`${byId("play")}.checkVisibility() && ${byId("player")}.contains(document.activeElement)`), "so does a key");
+    assert.ok(await browser.value(`${byId("play")}.checkVisibility() && ${byId("player")}.contains(document.activeElement)`),
+        "a key shows the controls");
     await browser.click("play");
     await browser.click("full");
     await browser.until("document.fullscreenElement === null");
@@ -313,20 +318,20 @@ async function tryTransparency(browser, { whole }) {
     const scratched = readFileSync(join(FOLDER, "song.raw"));
     const picture = screenOf(scratched, 7.14);
     const colour = (k) => picture.readUIntBE(3 * k, 3);
-    const found = await opacity();
-    assert.ok(found.filter((it) => it === 255).length > 1000);
-    found.forEach((it, k) => {
+    const opacities = await opacity();
+    assert.ok(opacities.filter((it) => it === 255).length > 1000);
+    opacities.forEach((it, k) => {
         assert.ok(it === 255 || it === 0);
         assert.ok(it === 0 ? colour(k) === colour(0) : true, `pixel ${k}`);
     });
-    assert.equal(found[0], 0);
+    assert.equal(opacities[0], 0);
     await browser.photograph("clear");
     await browser.value(`${byId("background")}.value = "levels"; ${byId("background")}.dispatchEvent(new Event("change"))`);
-    // A pack that sets levels: colour k becomes 4 k.
+    // This pack sets the level of colour k to 4 k.
     const levels = Buffer.alloc(PACK);
     levels.set([9, 28]);
     levels.set(Array.from({ length: 16 }, (_, k) => 4 * k), 4);
-    put({ "levels.cdg": Buffer.concat([readFileSync(join(FOLDER, "song.cdg")).subarray(0, PACK * 2100), levels]) });
+    writeFiles({ "levels.cdg": Buffer.concat([readFileSync(join(FOLDER, "song.cdg")).subarray(0, PACK * 2100), levels]) });
     await browser.open("levels.cdg");
     await browser.value("page.jump(8)");
     const seen = new Set(await opacity());
@@ -334,8 +339,8 @@ async function tryTransparency(browser, { whole }) {
     assert.ok(seen.size > 1 && [...seen].every((it) => allowed.has(it)), [...seen].join(" "));
     await browser.value(`${byId("background")}.value = "opaque"; ${byId("background")}.dispatchEvent(new Event("change"))`);
     assert.ok((await opacity()).every((it) => it === 255));
-    await expect(browser, whole, 0, "an empty screen");
-    return "backgrounds are clear by the border's colour or by the levels of the disc";
+    await expectScreen(browser, whole, 0, "an empty screen");
+    return "the background is transparent by the border's colour or by the levels of the disc";
 }
 
 // ---- keys, touch and texts for screen readers
@@ -344,7 +349,7 @@ async function tryKeys(browser) {
     await browser.open("song.cdg");
     await browser.send("Page.setInterceptFileChooserDialog", { enabled: true });
     await browser.value("document.activeElement.blur(); scrollTo(0, 0)");
-    // The key Tab reaches each control, and Enter on the button opens the dialog for files.
+    // The Tab key reaches each control, and Enter on the button opens the file dialog.
     const reached = [];
     for (let k = 0; k < 40 && !(reached.length > 15 && reached.at(-1) === "open"); k += 1) {
         await browser.press("Tab");
@@ -358,29 +363,29 @@ async function tryKeys(browser) {
     await browser.send("Page.setInterceptFileChooserDialog", { enabled: false });
     await browser.open("song.cdg");
     await browser.value(`${byId("line")}.focus()`);
-    const shows = async (key, seconds, text) => {
+    const expectPosition = async (key, seconds, text) => {
         await browser.press(key);
         assert.equal(Math.floor(await browser.value("page.now") + 1e-6), seconds, key);
         assert.equal(await browser.value(`${byId("line")}.getAttribute("aria-valuetext")`), `${text} of 23 seconds`);
         assert.equal(await browser.value(`${byId("line")}.getAttribute("aria-valuenow")`), String(seconds));
     };
-    await shows("ArrowRight", 5, "5 seconds");
-    await shows("ArrowRight", 10, "10 seconds");
-    await shows("ArrowLeft", 5, "5 seconds");
-    await shows("PageUp", 23, "23 seconds");
-    await shows("End", 23, "23 seconds");
-    await shows("Home", 0, "0 seconds");
+    await expectPosition("ArrowRight", 5, "5 seconds");
+    await expectPosition("ArrowRight", 10, "10 seconds");
+    await expectPosition("ArrowLeft", 5, "5 seconds");
+    await expectPosition("PageUp", 23, "23 seconds");
+    await expectPosition("End", 23, "23 seconds");
+    await expectPosition("Home", 0, "0 seconds");
     await browser.value("document.activeElement.blur()");
     await browser.press(" ", "Space", " ");
     await browser.until("page.isPlaying");
     await browser.press(" ", "Space", " ");
     await browser.until("!page.isPlaying");
-    // A key that a control needs is left to this control.
+    // The page ignores a key that the focused control uses itself.
     await browser.value(`${byId("speed")}.focus(); page.jump(0)`);
     await browser.press("ArrowRight");
     assert.equal(await browser.value("page.now"), 0);
     await browser.value(`${byId("speed")}.value = "1"; ${byId("speed")}.dispatchEvent(new Event("change")); document.activeElement.blur()`);
-    return "the keyboard opens files, moves the position, and plays";
+    return "the keyboard opens files, moves the position and plays";
 }
 
 async function tryPointers(browser) {
@@ -407,30 +412,31 @@ async function tryPointers(browser) {
     return "mouse and touch drag the position";
 }
 
-/** Names and roles as a screen reader gets them. */
+/** Checks names and roles in the accessibility tree, which screen readers use. */
 async function tryNames(browser) {
     await browser.open("song.raw");
     await browser.value("page.jump(7)");
     const { nodes } = await browser.send("Accessibility.getFullAXTree");
-    const found = nodes.filter((it) => !it.ignored).map((it) => ({
+    const elements = nodes.filter((it) => !it.ignored).map((it) => ({
         role: it.role?.value, name: it.name?.value ?? "", value: it.value?.value,
     }));
-    const named = (role, name) => found.find((it) => it.role === role && it.name === name);
+    const named = (role, name) => elements.find((it) => it.role === role && it.name === name);
     assert.equal(named("slider", "Position")?.value, 7);
     assert.equal(await browser.value(`${byId("line")}.getAttribute("aria-valuetext")`), "7 seconds of 24 seconds");
     assert.ok(named("slider", "Volume") && named("combobox", "Speed") && named("combobox", "Background"));
     assert.ok(named("spinbutton", "Lead-in blocks"));
-    assert.ok(found.some((it) => ["image", "img"].includes(it.role) && it.name === "CD+G screen of song.raw"));
+    assert.ok(elements.some((it) => ["image", "img"].includes(it.role) && it.name === "CD+G screen of song.raw"));
     for (const name of ["Play", "Open files", "Save as .cdg", "Full screen"]) {
         assert.ok(named("button", name), name);
     }
-    assert.ok(found.some((it) => it.role === "status"));
-    const nameless = found.filter((it) => ["button", "slider", "combobox", "spinbutton", "image", "img", "link"].includes(it.role) && it.name === "");
+    assert.ok(elements.some((it) => it.role === "status"));
+    const roles = ["button", "slider", "combobox", "spinbutton", "image", "img", "link"];
+    const nameless = elements.filter((it) => roles.includes(it.role) && it.name === "");
     assert.deepEqual(nameless, []);
     return "each control, the position and the screen have a role, a name and a value";
 }
 
-// In the page: each visible text with its colour and the colour behind it, and the edges of controls.
+// Evaluated in the page: each visible text and each edge of a control, with its colour and the colour behind it.
 const COLOURS_OF_PAGE = `(() => {
     const number = (text) => {
         const parts = text.match(/[\\d.]+/g).map(Number);
@@ -445,14 +451,14 @@ const COLOURS_OF_PAGE = `(() => {
         }
         return [255, 255, 255];
     };
-    const isSeen = (it) => it.checkVisibility() && it.getBoundingClientRect().width > 0;
-    const texts = [...document.querySelectorAll("body *")].filter((it) => isSeen(it) && !it.matches(":disabled, :disabled *, option") &&
+    const isVisible = (it) => it.checkVisibility() && it.getBoundingClientRect().width > 0;
+    const texts = [...document.querySelectorAll("body *")].filter((it) => isVisible(it) && !it.matches(":disabled, :disabled *, option") &&
         ([...it.childNodes].some((one) => one.nodeType === 3 && one.data.trim() !== "") || it.matches("input, select")));
     return [
         ...texts.map((it) => ({ what: it.id || it.tagName + " " + it.textContent.trim().slice(0, 30), least: ${LEAST_CONTRAST},
             one: number(getComputedStyle(it).color).rgb, other: it.closest("#hint") ? [0, 0, 0] : behind(it) })),
-        ...[...document.querySelectorAll("button, select, input[type=number], #line, #stage")].filter((it) => isSeen(it) && !it.closest("#list"))
-            .map((it) => ({ what: "the edge of " + it.id, least: ${LEAST_GRAPHICS_CONTRAST}, one: number(getComputedStyle(it).borderTopColor).rgb,
+        ...[...document.querySelectorAll("button, select, input[type=number], #line, #stage")]
+            .filter((it) => isVisible(it) && !it.closest("#list")).map((it) => ({ what: "the edge of " + it.id, least: ${LEAST_GRAPHICS_CONTRAST}, one: number(getComputedStyle(it).borderTopColor).rgb,
                 other: behind(it.parentElement) })),
         ...["drawn", "corrected", "bad", "now"].map((name) => {
             const swatch = document.createElement("p");
@@ -469,7 +475,8 @@ const COLOURS_OF_PAGE = `(() => {
             swatch.style.color = "var(--" + name + ")";
             const { color } = getComputedStyle(swatch);
             swatch.remove();
-            return { what: "the mark of the focus", least: ${LEAST_GRAPHICS_CONTRAST}, one: number(color).rgb, other: behind(document.body) };
+            return { what: "the outline of the focus", least: ${LEAST_GRAPHICS_CONTRAST}, one: number(color).rgb,
+                other: behind(document.body) };
         }),
     ];
 })()`;
@@ -491,14 +498,14 @@ async function tryLooks(browser) {
             await browser.look(width, height, scheme);
             await browser.visit(PAGE);
             await browser.photograph(`empty-${width}-${scheme}`);
-            await check(browser, least, width, scheme);
+            await checkLook(browser, least, width, scheme);
             await browser.open("song.raw", "second.cdg", "first.cdg");
             await browser.value("page.jump(7.14)");
             await wait(100);
             await browser.photograph(`page-${width}-${scheme}`);
-            await check(browser, least, width, scheme);
+            await checkLook(browser, least, width, scheme);
             await browser.open("noise.bin");
-            await check(browser, least, width, scheme);
+            await checkLook(browser, least, width, scheme);
         }
     }
     await browser.look(1000, 880, "dark");
@@ -512,33 +519,33 @@ async function tryLooks(browser) {
     return `contrast is at least ${least.text.toFixed(1)} for texts and ${least.edges.toFixed(1)} for edges, light and dark, at 320 to 1280 pixels`;
 }
 
-async function check(browser, least, width, scheme) {
-    for (const { what, one, other, least: wanted } of await browser.value(COLOURS_OF_PAGE)) {
-        const found = contrast(one, other);
-        assert.ok(found >= wanted, `${what}, ${scheme}: ${found.toFixed(2)} of ${one} on ${other}`);
-        const kind = wanted === LEAST_CONTRAST ? "text" : "edges";
-        least[kind] = Math.min(least[kind], found);
+/** Checks contrasts, the width of the page and the sizes of controls; lowers `least` to the least contrasts of texts and edges. */
+async function checkLook(browser, least, width, scheme) {
+    for (const { what, one, other, least: required } of await browser.value(COLOURS_OF_PAGE)) {
+        const ratio = contrast(one, other);
+        assert.ok(ratio >= required, `${what}, ${scheme}: contrast ${ratio.toFixed(2)} of ${one} on ${other}`);
+        const kind = required === LEAST_CONTRAST ? "text" : "edges";
+        least[kind] = Math.min(least[kind], ratio);
     }
-    const [wide, seen] = await browser.value("[document.documentElement.scrollWidth, innerWidth]");
-    assert.ok(wide <= seen, `at ${width} pixels the page is ${wide} wide`);
-    // A finger needs 24 pixels.
+    const [pageWidth, windowWidth] = await browser.value("[document.documentElement.scrollWidth, innerWidth]");
+    assert.ok(pageWidth <= windowWidth, `in a window of ${width} pixels the page is ${pageWidth} wide`);
+    // WCAG 2.2 asks for targets of at least 24 by 24 pixels.
     const small = await browser.value(`[...document.querySelectorAll("button, select, input:not([type=file]), #line")]
         .filter((it) => it.checkVisibility()).map((it) => [it.id, it.getBoundingClientRect()])
         .filter(([, box]) => box.width < 24 || box.height < 24).map(([id]) => id)`);
     assert.deepEqual(small, []);
 }
 
-// ---- files that come together
+// ---- zips, sounds and images
 
 async function tryZips(browser, { packs }) {
     const [one, other] = [packs.subarray(0, PACK * 600), packs.subarray(0, PACK * 1200)];
-    const wav = (seconds) => tone(seconds);
     const open = async (name, entries, options) => {
-        put({ [name]: zipOf(entries, options) });
+        writeFiles({ [name]: zipOf(entries, options) });
         return browser.open(name);
     };
     const song = { name: "song.cdg", bytes: packs };
-    assert.match(await open("plain.zip", [song, { name: "song.wav", bytes: wav(22), stored: true }]), /^song\.cdg: .*sound: song\.wav/);
+    assert.match(await open("plain.zip", [song, { name: "song.wav", bytes: tone(22), stored: true }]), /^song\.cdg: .*sound: song\.wav/);
     await browser.until("page.seconds > 22");
     await browser.value("page.jump(3)");
     await browser.click("play");
@@ -547,19 +554,20 @@ async function tryZips(browser, { packs }) {
     for (const [name, options] of [["wide", { wide: true }], ["front", { front: Buffer.from("MZ and more") }], ["both", { wide: true, front: Buffer.alloc(99) }]]) {
         assert.match(await open(`${name}.zip`, [song], options), /^song\.cdg: a \.cdg file/, name);
     }
-    // A pair is found by its name, whatever is between its files.
-    const pairs = [{ name: "B.wav", bytes: wav(7) }, { name: "A.cdg", bytes: one }, { name: "A.wav", bytes: wav(5) }, { name: "B.cdg", bytes: other }];
+    // Files with the same name are a pair, even with other files between them.
+    const pairs = [{ name: "B.wav", bytes: tone(7) }, { name: "A.cdg", bytes: one },
+        { name: "A.wav", bytes: tone(5) }, { name: "B.cdg", bytes: other }];
     assert.match(await open("pairs.zip", pairs), /^A\.cdg: .*sound: A\.wav/);
     await browser.until("page.seconds === 5");
     await browser.value("document.querySelectorAll('#list button')[1].click()");
     await browser.until("page.seconds === 7");
     assert.match(await browser.value(`${byId("message")}.textContent`), /^B\.cdg: .*sound: B\.wav/);
     assert.equal(await browser.value("document.querySelector('#list [aria-current]').textContent"), "pairs.zip/B.cdg with B.wav");
-    // Files that macOS adds are no songs.
+    // The page ignores files that macOS adds.
     const mac = [{ name: "__MACOSX/._x.cdg", bytes: Buffer.alloc(300, 5) }, { name: "x.cdg", bytes: one }];
     assert.match(await open("mac.zip", mac), /^x\.cdg: /);
     assert.equal(await browser.value(`${byId("files")}.hidden`), true);
-    // One unreadable file does not prevent the others.
+    // One unreadable file leaves the others playable.
     const mixed = [{ name: "a.cdg", bytes: one, method: 14 }, { name: "b.cdg", bytes: one, flags: 1 }, { name: "c.cdg", bytes: other }];
     assert.match(await open("mixed.zip", mixed), /^c\.cdg: /);
     assert.deepEqual(await browser.value("[...document.querySelectorAll('#list li')].map((it) => it.textContent)"),
@@ -568,11 +576,12 @@ async function tryZips(browser, { packs }) {
         [/damaged: it cannot be unpacked/, { packed: Buffer.alloc(500, 0xff) }], [/longer than the directory/, { size: 5 }]]) {
         assert.match(await open("wrong.zip", [{ ...song, ...entry }]), why);
     }
-    put({ "cut.zip": zipOf([song]).subarray(0, 400) });
+    writeFiles({ "cut.zip": zipOf([song]).subarray(0, 400) });
     assert.match(await browser.open("cut.zip"), /no directory/);
-    // With a broken sound, the graphics still play.
-    assert.match(await open("sound.zip", [song, { name: "song.mp3", bytes: wav(1), crc: 3 }]), /^song\.cdg: .*no sound: song\.mp3 is damaged/);
-    return "zips are read, pairs are made by names, and what is wrong is named";
+    // The graphics play without a damaged sound.
+    assert.match(await open("sound.zip", [song, { name: "song.mp3", bytes: tone(1), crc: 3 }]),
+        /^song\.cdg: .*no sound: song\.mp3 is damaged/);
+    return "zips are read, files are paired by their names, and errors are reported";
 }
 
 async function tryBombs(browser) {
@@ -580,7 +589,7 @@ async function tryBombs(browser) {
     const heap = async () => (await browser.send("Runtime.getHeapUsage"));
     const before = await heap();
     const from = Date.now();
-    put({ "bomb.zip": zipOf([{ name: "x.cdg", bytes: Buffer.alloc(0), packed, size: 2 ** 30 }]),
+    writeFiles({ "bomb.zip": zipOf([{ name: "x.cdg", bytes: Buffer.alloc(0), packed, size: 2 ** 30 }]),
         "lying.zip": zipOf([{ name: "x.cdg", bytes: Buffer.alloc(0), packed, size: 24_000 }]) });
     assert.match(await browser.open("bomb.zip"), /x\.cdg would unpack to 1024 MB, more than 512/);
     assert.match(await browser.open("lying.zip"), /x\.cdg is longer than the directory of the zip says/);
@@ -592,14 +601,15 @@ async function tryBombs(browser) {
 
 async function tryOpus(browser) {
     if (spawnSync("ffmpeg", ["-version"]).status !== 0) {
-        return "opus is skipped, there is no ffmpeg";
+        return "opus is skipped: ffmpeg is not installed";
     }
     for (const [ending, codec] of [["opus", "libopus"], ["mp3", "libmp3lame"], ["flac", "flac"]]) {
-        const made = spawnSync("ffmpeg", ["-v", "error", "-y", "-f", "lavfi", "-i", "sine=frequency=440:duration=30", "-c:a", codec,
+        const result = spawnSync("ffmpeg", ["-v", "error", "-y", "-f", "lavfi", "-i", "sine=frequency=440:duration=30", "-c:a", codec,
             join(FOLDER, `song.${ending}`)]);
-        assert.equal(made.status, 0, String(made.stderr));
+        assert.equal(result.status, 0, String(result.stderr));
         const bytes = readFileSync(join(FOLDER, `song.${ending}`));
-        put({ "sounds.zip": zipOf([{ name: `song.${ending}`, bytes }, { name: "song.cdg", bytes: readFileSync(join(FOLDER, "song.cdg")) }]) });
+        writeFiles({ "sounds.zip": zipOf([{ name: `song.${ending}`, bytes },
+            { name: "song.cdg", bytes: readFileSync(join(FOLDER, "song.cdg")) }]) });
         assert.match(await browser.open("sounds.zip"), new RegExp(`sound: song\\.${ending}`));
         await browser.until("Math.abs(page.seconds - 30) < 0.2");
         await browser.click("play");
@@ -609,31 +619,31 @@ async function tryOpus(browser) {
     return "zips with opus, mp3 and flac are played";
 }
 
-/** Images with sound in their sectors: CloneCD's three files, a .bin with its sheet, and sectors of 2,448 bytes. */
+/** Opens images with sound: CloneCD's three files, and a .bin with sectors of 2,448 bytes and its sheet. */
 async function tryImages(browser, { disc, whole }) {
     const stream = disc(75);
     const blocks = stream.length / BLOCK;
-    // A tone in every second sector, so that the sound differs from silence.
-    const audio = Buffer.alloc(AUDIO * blocks);
+        const audio = Buffer.alloc(AUDIO * blocks);
     for (let at = 0; at < audio.length; at += 4) {
         audio.writeInt16LE(Math.round(8000 * Math.sin(at / 100)), at);
     }
-    put({ "disc.sub": run(stream, "planar"), "disc.img": audio, "disc.ccd": "[CloneCD]\r\nVersion=3\r\n[Entry 0]\r\nPoint=0x01\r\nControl=0x00\r\n" });
+    writeFiles({ "disc.sub": run(stream, "planar"), "disc.img": audio,
+        "disc.ccd": "[CloneCD]\r\nVersion=3\r\n[Entry 0]\r\nPoint=0x01\r\nControl=0x00\r\n" });
     for (const order of [["disc.ccd", "disc.img", "disc.sub"], ["disc.sub", "disc.ccd", "disc.img"]]) {
-        const told = await browser.open(...order);
-        assert.match(told, /^disc\.sub: subcode in the planar form.*lead-in: 75 blocks, by Q; sound: that of disc\.img/);
+        const message = await browser.open(...order);
+        assert.match(message, /^disc\.sub: subcode in the planar form.*lead-in: 75 blocks, by Q; sound: that of disc\.img/);
         await browser.until(`Math.abs(document.querySelector("audio").duration - ${blocks / 75}) < 0.01`);
-        await expect(browser, stream, 7.14, "CloneCD's files", 75);
-        // The sound begins with the lead-in, a second before the time of the picture.
+        await expectScreen(browser, stream, 7.14, "CloneCD's files", 75);
+        // The sound begins with the lead-in, one second before the picture.
         assert.ok(Math.abs(await browser.value("document.querySelector('audio').currentTime - page.now") - 1) < 0.05);
     }
-    put({ "data.sub": run(stream, "planar"), "data.img": audio, "data.ccd": "[Entry 0]\r\nPoint=0x01\r\nControl=0x04\r\n" });
+    writeFiles({ "data.sub": run(stream, "planar"), "data.img": audio, "data.ccd": "[Entry 0]\r\nPoint=0x01\r\nControl=0x04\r\n" });
     assert.match(await browser.open("data.sub", "data.img", "data.ccd"), /data\.img has data tracks, and its sound is not played/);
-    put({ "image.bin": imageOf(whole), "image.cue": 'FILE "image.bin" BINARY\n  TRACK 01 CDG\n    INDEX 01 00:00:00\n' });
+    writeFiles({ "image.bin": imageOf(whole), "image.cue": 'FILE "image.bin" BINARY\n  TRACK 01 CDG\n    INDEX 01 00:00:00\n' });
     assert.match(await browser.open("image.cue", "image.bin"), /^image\.bin: an image with sectors of 2,448 bytes.*sound: that of image\.bin/);
     await browser.until(`Math.abs(document.querySelector("audio").duration - ${whole.length / BLOCK / 75}) < 0.01`);
-    await expect(browser, whole, 7.14, "a .bin with its sheet");
-    put({ "plain.bin": audio, "plain.cue": 'FILE "plain.bin" BINARY\n  TRACK 01 AUDIO\n    INDEX 01 00:00:00\n' });
+    await expectScreen(browser, whole, 7.14, "a .bin with its sheet");
+    writeFiles({ "plain.bin": audio, "plain.cue": 'FILE "plain.bin" BINARY\n  TRACK 01 AUDIO\n    INDEX 01 00:00:00\n' });
     assert.match(await browser.open("plain.cue", "plain.bin"), /plain\.bin cannot be played/);
     return "images play with their own sound";
 }
@@ -660,7 +670,7 @@ async function tryOpening(browser, { packs }) {
         assert.match(await browser.open("second.cdg"), /^second\.cdg/);
         assert.equal(await browser.value(`${byId("file")}.value`), "");
     }
-    // If two files are opened at once, the later one is shown.
+    // If two files are opened at once, the page shows the later one.
     await browser.value(`(() => {
         const file = (name, size) => ({ path: name, file: new File([new Uint8Array(size)], name) });
         page.open([file("one.cdg", 24000000)]);
@@ -669,7 +679,7 @@ async function tryOpening(browser, { packs }) {
     await browser.until(`${byId("message")}.textContent.startsWith("two.cdg")`);
     await wait(500);
     assert.ok(await browser.value(`${byId("message")}.textContent.startsWith("two.cdg")`));
-    // Dropped files are listed, including those in folders.
+    // Dropped files are listed, without those that are not playable.
     await browser.value(`(() => {
         const transfer = new DataTransfer();
         for (const name of ["x.cdg", "y.cdg", "z.txt"]) {
@@ -679,10 +689,10 @@ async function tryOpening(browser, { packs }) {
     })()`);
     await browser.until(`${byId("message")}.textContent.startsWith("x.cdg")`);
     assert.deepEqual(await browser.value("[...document.querySelectorAll('#list button')].map((it) => it.textContent)"), ["x.cdg", "y.cdg"]);
-    return "files are opened during playback, twice, at once and together";
+    return "files can be opened during playback, twice, at once and together";
 }
 
-/** The screen of packs, through a stream with four packs per block. */
+/** The program's screen after packs, given to it as a stream with four packs per block. */
 function screenOfPacks(packs) {
     return run(packs, "screen", "--lead-in", "0", "--form", "cooked", "--at", moment(packs.length / BLOCK / 75)).subarray(15);
 }
@@ -690,19 +700,19 @@ function screenOfPacks(packs) {
 /** Dumps of 40 MB: memory does not grow, and the page stays responsive while it saves one. */
 async function tryBigDumps(browser, { whole }) {
     const big = Buffer.concat(Array.from({ length: Math.ceil(41_000_000 / whole.length) }, () => whole));
-    put({ "big.raw": big });
+    writeFiles({ "big.raw": big });
     const sizes = [];
-    const begun = Date.now();
+    const started = Date.now();
     await watch(browser);
     await browser.open("big.raw");
-    const opening = await browser.value("stopWatching()");
-    assert.ok(opening < Math.max(400, (Date.now() - begun) / 2), `while it opens a file the page stands still for ${opening} ms`);
+    const openingFreeze = await browser.value("stopWatching()");
+    assert.ok(openingFreeze < Math.max(400, (Date.now() - started) / 2), `the page freezes for ${openingFreeze} ms while it opens a file`);
     for (let k = 0; k < 5; k += 1) {
         assert.match(await browser.open("big.raw"), /^big\.raw: raw subcode/);
         await browser.value("page.jump(5000)");
         sizes.push(await browser.value("page.ribjasper.memoryBytes"));
     }
-    // Free memory is split and joined at first.
+    // Memory may grow a little at first, while free memory is split and joined.
     assert.ok(sizes.at(-1) === sizes.at(-2) && sizes.at(-1) - sizes[0] < 1_000_000, `the memory of the module: ${sizes}`);
     mkdirSync(join(FOLDER, "saved"));
     await browser.send("Browser.setDownloadBehavior", { behavior: "allow", downloadPath: join(FOLDER, "saved"), eventsEnabled: true });
@@ -712,15 +722,15 @@ async function tryBigDumps(browser, { whole }) {
     await browser.until(`${byId("message")}.textContent.includes("is saved")`, 120);
     const seconds = (Date.now() - from) / 1000;
     const shares = await browser.value("shares.size");
-    const gap = await browser.value("stopWatching()");
-    assert.ok(shares > 5, `${shares} shares of the progress are shown`);
-    assert.ok(gap < Math.max(400, 1000 * seconds / 2), `while it saves a file the page stands still for ${gap} ms`);
-    const place = join(FOLDER, "saved", "big.cdg");
-    const wanted = run(big, "convert", "--lead-in", "0");
-    for (let tries = 0; tries < 200 && !(existsSync(place) && statSync(place).size === wanted.length); tries += 1) {
+    const savingFreeze = await browser.value("stopWatching()");
+    assert.ok(shares > 5, `the page shows only ${shares} steps of progress`);
+    assert.ok(savingFreeze < Math.max(400, 1000 * seconds / 2), `the page freezes for ${savingFreeze} ms while it saves a file`);
+    const saved = join(FOLDER, "saved", "big.cdg");
+    const expected = run(big, "convert", "--lead-in", "0");
+    for (let tries = 0; tries < 200 && !(existsSync(saved) && statSync(saved).size === expected.length); tries += 1) {
         await wait(50);
     }
-    assert.equal(Buffer.compare(readFileSync(place), wanted), 0, "what is saved");
+    assert.equal(Buffer.compare(readFileSync(saved), expected), 0, "the saved file");
     // Saving can be cancelled.
     await browser.value(`${byId("save")}.click()`);
     assert.equal(await browser.value(`${byId("save")}.textContent`), "Cancel saving");
@@ -728,50 +738,51 @@ async function tryBigDumps(browser, { whole }) {
     await browser.until(`${byId("message")}.textContent.includes("big.cdg is not saved")`);
     assert.equal(await browser.value(`${byId("save")}.textContent`), "Save as .cdg");
     await browser.open("first.cdg");
-    return `dumps of ${Math.round(big.length / 1e6)} MB leave ${(sizes.at(-1) / 1e6).toFixed(1)} MB of memory; one is saved in ${seconds.toFixed(1)} s; ` +
-        `the page stands still for at most ${Math.round(opening)} ms while it opens one and ${Math.round(gap)} ms while it saves it`;
+    return `dumps of ${Math.round(big.length / 1e6)} MB need ${(sizes.at(-1) / 1e6).toFixed(1)} MB of memory; ` +
+        `one is saved in ${seconds.toFixed(1)} s; the page freezes for at most ${Math.round(openingFreeze)} ms while it opens one ` +
+        `and ${Math.round(savingFreeze)} ms while it saves it`;
 }
 
-/** From here on, records the longest time between two pictures of the page, and the shares that its progress shows. */
+/** Starts to record the longest time between two frames of the page, and the values of its progress bar. */
 function watch(browser) {
     return browser.value(`(() => {
         globalThis.shares = new Set();
-        let [last, longest, goesOn] = [performance.now(), 0, true];
-        const look = () => {
+        let [last, longest, isRunning] = [performance.now(), 0, true];
+        const record = () => {
             const now = performance.now();
             longest = Math.max(longest, now - last);
             last = now;
             shares.add(${byId("share")}.value);
-            if (goesOn) {
-                requestAnimationFrame(look);
+            if (isRunning) {
+                requestAnimationFrame(record);
             }
         };
         globalThis.stopWatching = () => {
-            goesOn = false;
+            isRunning = false;
             return longest;
         };
-        requestAnimationFrame(look);
+        requestAnimationFrame(record);
     })()`);
 }
 
-/** The page requests only itself and its own objects. */
+/** The page requests only its own files and objects. */
 function expectNoRequests(browser) {
-    const asked = browser.events.filter((it) => it.method === "Network.requestWillBeSent").map((it) => it.params.request.url);
-    assert.deepEqual(asked.filter((it) => !/^(file|blob|data):/.test(it)), []);
-    const failed = browser.events.filter((it) => it.method === "Runtime.exceptionThrown").map((it) => it.params.exceptionDetails);
-    assert.deepEqual(failed, []);
-    return "nothing is fetched, and no error is thrown";
+    const urls = browser.events.filter((it) => it.method === "Network.requestWillBeSent").map((it) => it.params.request.url);
+    assert.deepEqual(urls.filter((it) => !/^(file|blob|data):/.test(it)), []);
+    const exceptions = browser.events.filter((it) => it.method === "Runtime.exceptionThrown").map((it) => it.params.exceptionDetails);
+    assert.deepEqual(exceptions, []);
+    return "the page fetches nothing else, and throws no error";
 }
 
 async function tryPage(browser) {
-    const made = files();
+    const songs = writeSongs();
     const version = (await browser.send("Browser.getVersion")).product;
     await browser.visit(PAGE);
     const tests = [tryStreams, tryLeadIns, tryStreamsWithoutQ, trySound, tryControls, tryTransparency, tryKeys, tryPointers, tryNames,
         tryLooks, tryZips, tryBombs, tryOpus, tryImages, tryOpening, tryBigDumps, expectNoRequests];
     const only = process.env.ONLY?.split(",");
     for (const test of tests.filter((it) => only === undefined || only.includes(it.name))) {
-        console.log(`test_page: ${version}: ${await test(browser, made)}`);
+        console.log(`test_page: ${version}: ${await test(browser, songs)}`);
     }
 }
 

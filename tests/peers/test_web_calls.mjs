@@ -1,5 +1,6 @@
-// The calls of the web module with many blocks and packs, and its seeking, pixels and parity, through their plain exports: each
-// has the same effect as single calls, and a refused call changes nothing. Run by tests/peers/compare_web.sh, or:
+// Tests the plain exports of the web module: calls with many blocks or packs, seeking, pixels and parity. Each has the same effect
+// as single calls, and a refused call changes nothing. tests/peers/compare_web.sh runs this test; or run
+//
 //     node tests/peers/test_web_calls.mjs lib/web/ribjasper.wasm
 import { readFile } from "node:fs/promises";
 
@@ -12,8 +13,8 @@ const { instance } = await WebAssembly.instantiate(await readFile(process.argv[2
 const { memory, ...calls } = instance.exports;
 let failed = 0;
 
-function check(holds, what) {
-    if (!holds) {
+function check(isTrue, what) {
+    if (!isTrue) {
         console.error(`test_web_calls: ${what}`);
         failed = 1;
     }
@@ -26,13 +27,13 @@ function grow(pages) {
     try {
         memory.grow(BigInt(pages));
     } catch {
-        // Before 2024, the number was not a BigInt.
+        // Engines before 2024 expect a plain number.
         memory.grow(pages);
     }
 }
 
-/** An address that is a multiple of eight, with this many bytes behind it. */
-function room(bytes) {
+/** Allocates this many bytes at a multiple of eight, and returns their address. */
+function allocate(bytes) {
     const at = end;
     end += 8 * Math.ceil(bytes / 8);
     const more = Math.ceil((end - memory.buffer.byteLength) / 65536);
@@ -47,32 +48,31 @@ const big = (...numbers) => numbers.map(BigInt);
 const same = (one, other, length) => Buffer.compare(bytes(one, length), bytes(other, length)) === 0;
 
 let seed = 9;
-function next(below) {
+function randomBelow(bound) {
     seed = (Math.imul(seed, 1664525) + 1013904223) >>> 0;
-    return Math.floor((seed / 2 ** 32) * below);
+    return Math.floor((seed / 2 ** 32) * bound);
 }
 
 const [one, other, change, stream, packs, work, marks, shown] = [
     PLAYER, PLAYER, 20, BLOCK * BLOCKS, PACK * PACKS, BLOCK * BLOCKS, MARK * MARKS, 4 * 300 * 216,
-].map(room);
+].map(allocate);
 for (let n = 0; n < BLOCKS; n++) {
-    const quiet = next(2) === 0;
+    const isQuiet = randomBelow(2) === 0;
     for (let i = 0; i < BLOCK; i++) {
-        bytes(stream + BLOCK * n, BLOCK)[i] = quiet ? 64 * next(4) : next(256);
+        bytes(stream + BLOCK * n, BLOCK)[i] = isQuiet ? 64 * randomBelow(4) : randomBelow(256);
     }
 }
 for (let n = 0; n < PACKS; n++) {
     const pack = bytes(packs + PACK * n, PACK);
     for (let i = 0; i < PACK; i++) {
-        pack[i] = next(256);
+        pack[i] = randomBelow(256);
     }
-    pack[0] = next(6) === 0 ? next(256) : 9;
-    pack[1] = next(15) === 0 ? 20 + next(12) : 6;
+    pack[0] = randomBelow(6) === 0 ? randomBelow(256) : 9;
+    pack[1] = randomBelow(15) === 0 ? 20 + randomBelow(12) : 6;
     pack[6] %= 18;
     pack[7] %= 50;
 }
 
-/** The picture of the player. */
 function picture(player) {
     call("picture", ...big(player, shown));
     return bytes(shown, 4 * 300 * 216).slice();
@@ -82,14 +82,14 @@ function begin(player, form = 0, leadIn = 0) {
     check(call("begin", BigInt(player), form, leadIn) === 0, `begin ${form} ${leadIn}`);
 }
 
-/** The change that a call wrote: left, top, right, bottom, colours, levels. */
-function rectangle() {
+/** The change that a call reported: left, top, right, bottom, colours, levels. */
+function reportedChange() {
     const numbers = new DataView(memory.buffer, change, 20);
     return [0, 4, 8, 12].map((at) => numbers.getUint32(at, true)).concat([numbers.getUint8(16), numbers.getUint8(17)]);
 }
 
-/** Whether two pictures differ at most in the rectangle. */
-function isKept(before, after, [left, top, right, bottom, colours]) {
+/** Whether two pictures are equal outside the rectangle. */
+function isEqualOutside(before, after, [left, top, right, bottom, colours]) {
     if (colours) {
         return true;
     }
@@ -107,13 +107,13 @@ function isKept(before, after, [left, top, right, bottom, colours]) {
     return true;
 }
 
-/** Many packs and many blocks in one call. */
+/** A call with many blocks or packs has the same effect as single calls. */
 function compareMany() {
     for (const form of [0, 1]) {
         begin(one, form, 2);
         begin(other, form, 2);
         for (let from = 0; from < BLOCKS; ) {
-            const count = Math.min(BLOCKS - from, next(40));
+            const count = Math.min(BLOCKS - from, randomBelow(40));
             const before = picture(one);
             call("feed_changes", ...big(one, stream + BLOCK * from, count, change));
             for (let n = from; n < from + count; n++) {
@@ -121,16 +121,16 @@ function compareMany() {
             }
             from += count;
             check(same(one, other, PLAYER), `feed_changes to block ${from} of form ${form}`);
-            check(isKept(before, picture(one), rectangle()), `what changes to block ${from}`);
+            check(isEqualOutside(before, picture(one), reportedChange()), `the change reported up to block ${from}`);
             if (count === 0) {
-                check(rectangle().join() === "300,216,0,0,0,0", "no block changes nothing");
+                check(reportedChange().join() === "300,216,0,0,0,0", "a call without blocks reports no change");
             }
         }
     }
     begin(one);
     begin(other);
     for (let from = 0; from < PACKS; ) {
-        const count = Math.min(PACKS - from, next(50));
+        const count = Math.min(PACKS - from, randomBelow(50));
         const before = picture(one);
         call("draw_all", ...big(one, packs + PACK * from, count, change));
         for (let n = from; n < from + count; n++) {
@@ -138,31 +138,31 @@ function compareMany() {
         }
         from += count;
         check(same(one, other, PLAYER), `draw_all to pack ${from}`);
-        check(isKept(before, picture(one), rectangle()), `what changes to pack ${from}`);
+        check(isEqualOutside(before, picture(one), reportedChange()), `the change reported up to pack ${from}`);
     }
 }
 
-/** Planar blocks, as many as both lists have. */
+/** The call converts as many planar blocks as both lists have. */
 function comparePlanar() {
     bytes(work, BLOCK * BLOCKS).fill(0xee);
     call("blocks_from_planar", ...big(stream, 3, work, BLOCKS));
-    check(bytes(work + 3 * BLOCK, BLOCK).every((byte) => byte === 0xee), "three planar blocks write three");
+    check(bytes(work + 3 * BLOCK, BLOCK).every((byte) => byte === 0xee), "three planar blocks write three blocks");
     call("blocks_from_planar", ...big(stream, BLOCKS, work, BLOCKS));
-    const [single] = [room(BLOCK)];
+    const [single] = [allocate(BLOCK)];
     for (let n = 0; n < BLOCKS; n++) {
         call("from_planar", ...big(stream + BLOCK * n, single));
         check(same(single, work + BLOCK * n, BLOCK), `planar block ${n}`);
     }
 }
 
-/** Seeking, from whatever marks there are. */
+/** Seeking shows the right picture with any number of marks and any distance between them. */
 function compareSeeks() {
     for (const [form, leadIn, every, count] of [[0, 0, 50, MARKS], [0, 7, 1, MARKS], [1, 0, 399, 1], [0, 450000, 30, MARKS], [0, 3, 60, 0]]) {
         bytes(marks, MARK * MARKS).fill(0);
         for (let round = 0; round < 12; round++) {
-            const to = next(BLOCKS + 1);
-            const answer = call("seek", BigInt(one), form, leadIn, ...big(stream, BLOCKS, to, marks, count), every);
-            check(answer === 0, `seek answers ${answer}`);
+            const to = randomBelow(BLOCKS + 1);
+            const status = call("seek", BigInt(one), form, leadIn, ...big(stream, BLOCKS, to, marks, count), every);
+            check(status === 0, `seek returns ${status}`);
             begin(other, form, leadIn);
             for (let n = 0; n < to; n++) {
                 call("feed", ...big(other, stream + BLOCK * n));
@@ -170,14 +170,14 @@ function compareSeeks() {
             check(Buffer.compare(picture(one), picture(other)) === 0, `seek to ${to} by ${every}`);
             call("feed", ...big(one, stream));
             call("feed", ...big(other, stream));
-            check(Buffer.compare(picture(one), picture(other)) === 0, `what follows ${to}`);
+            check(Buffer.compare(picture(one), picture(other)) === 0, `the block after ${to}`);
         }
     }
     for (const [every, count] of [[64, MARKS], [1, MARKS], [600, 1], [77, 0]]) {
         bytes(marks, MARK * MARKS).fill(0);
         for (let round = 0; round < 12; round++) {
-            const to = next(PACKS + 1);
-            check(call("seek_packs", ...big(one, packs, PACKS, to, marks, count), every) === 0, "seek_packs answers 0");
+            const to = randomBelow(PACKS + 1);
+            check(call("seek_packs", ...big(one, packs, PACKS, to, marks, count), every) === 0, "seek_packs returns 0");
             begin(other);
             call("draw_all", ...big(other, packs, to, change));
             check(Buffer.compare(picture(one), picture(other)) === 0, `seek to pack ${to} by ${every}`);
@@ -185,31 +185,31 @@ function compareSeeks() {
     }
 }
 
-/** Pixels, with the opacity of levels or opaque, change only their own bytes. */
+/** The pixels have the opacity of their levels, or are opaque; the call writes only their bytes. */
 function comparePixels() {
     const size = 4 * 300 * 216;
-    const guarded = room(size + 16);
-    const numbers = room(300 * 216);
-    const below = room(56);
+    const guarded = allocate(size + 16);
+    const numbers = allocate(300 * 216);
+    const levelsAt = allocate(56);
     for (const levels of [0, 1, 2, 4294967295]) {
         bytes(guarded, size + 16).fill(0xa7);
         call("pixels", BigInt(one), levels, BigInt(guarded + 8));
         check(bytes(guarded, 8).every((byte) => byte === 0xa7), "bytes before the pixels");
         check(bytes(guarded + 8 + size, 8).every((byte) => byte === 0xa7), "bytes behind the pixels");
         call("screen", ...big(one, numbers));
-        call("shown", ...big(one, below));
-        const wanted = picture(one);
+        call("shown", ...big(one, levelsAt));
+        const expected = picture(one);
         bytes(numbers, 300 * 216).forEach((colour, k) => {
-            const level = bytes(below, 56)[32 + colour];
-            wanted[4 * k + 3] = levels === 0 ? 255 : 255 - (4 * level + Math.floor(level / 16));
+            const level = bytes(levelsAt, 56)[32 + colour];
+            expected[4 * k + 3] = levels === 0 ? 255 : 255 - (4 * level + Math.floor(level / 16));
         });
-        check(Buffer.compare(bytes(guarded + 8, size), wanted) === 0, `pixels with levels ${levels}`);
+        check(Buffer.compare(bytes(guarded + 8, size), expected) === 0, `pixels with levels ${levels}`);
     }
 }
 
-/** Packs are counted and sealed, as many as requested, and no byte behind them changes. */
+/** As many packs as requested are counted and sealed, and no byte behind them changes. */
 function compareParity() {
-    const [counts, sealed, fixed] = [room(40), room(PACK * PACKS + 8), room(PACK)];
+    const [counts, sealed, fixed] = [allocate(40), allocate(PACK * PACKS + 8), allocate(PACK)];
     const parity = (at, count) => {
         bytes(counts, 40).fill(0xa7);
         call("packs_parity", ...big(at, count, counts + 8));
@@ -220,17 +220,18 @@ function compareParity() {
     bytes(sealed, PACK * PACKS).set(bytes(packs, PACK * PACKS));
     bytes(sealed + PACK * PACKS, 8).fill(0xa7);
     const idle = Array.from({ length: PACKS }, (_, n) => bytes(packs + PACK * n, PACK).every((byte) => byte % 64 === 0)).filter(Boolean).length;
-    // A pack of noise is a codeword once in 2 ** 36 times.
+    // One pack of noise in 2 ** 36 is a codeword.
     check(parity(packs, PACKS).join() === [idle, 0, PACKS - idle].join(), "packs of noise have no parity");
     call("packs_seal", ...big(sealed, PACKS - 1));
-    check(Buffer.compare(bytes(sealed + PACK * (PACKS - 1), PACK), bytes(packs + PACK * (PACKS - 1), PACK)) === 0, "the pack behind those that are sealed");
+    check(Buffer.compare(bytes(sealed + PACK * (PACKS - 1), PACK), bytes(packs + PACK * (PACKS - 1), PACK)) === 0,
+        "the pack behind the sealed packs");
     call("packs_seal", ...big(sealed, PACKS));
     check(bytes(sealed + PACK * PACKS, 8).every((byte) => byte === 0xa7), "bytes behind the packs");
-    check(parity(sealed, PACKS).reduce((a, b) => a + b) === PACKS && parity(sealed, PACKS)[2] === 0, "packs that are sealed have parity");
+    check(parity(sealed, PACKS).reduce((a, b) => a + b) === PACKS && parity(sealed, PACKS)[2] === 0, "sealed packs have parity");
     for (let n = 0; n < PACKS; n++) {
         const [before, after] = [bytes(packs + PACK * n, PACK), bytes(sealed + PACK * n, PACK)];
         check([0, 1, 4, 5, 6, 7, 8, 9, 10, 11, 12, 13, 14, 15, 16, 17, 18, 19].every((k) => after[k] === before[k] % 64), `symbols of pack ${n}`);
-        // A wrong symbol becomes part of the codeword: the parity is computed for it.
+        // With one wrong symbol, the pack is no codeword.
         bytes(fixed, PACK).set(after);
         bytes(fixed, PACK)[n % PACK] ^= 1 + (n % 63);
         check(parity(fixed, 1)[2] === 1, `pack ${n} with a wrong symbol`);
@@ -247,7 +248,7 @@ function compareRefusals() {
     check(call("seek_packs", ...big(one, packs, PACKS, PACKS + 1, marks, MARKS), 1) === -1, "seek_packs refuses");
     check(call("seek_packs", ...big(one, packs, PACKS, 0, marks, MARKS), 0) === -1, "seek_packs refuses 0");
     check(Buffer.compare(kept, bytes(one, PLAYER)) === 0 && Buffer.compare(keptMarks, bytes(marks, MARK * MARKS)) === 0,
-        "what is refused changes nothing");
+        "a refused call changes nothing");
 }
 
 compareMany();
@@ -257,6 +258,6 @@ comparePixels();
 compareParity();
 compareRefusals();
 if (failed === 0) {
-    console.log("test_web_calls: calls on many blocks and packs, and seeking, give what single calls give");
+    console.log("test_web_calls: calls on many blocks and packs, and seeking, have the same effect as single calls");
 }
 process.exit(failed);

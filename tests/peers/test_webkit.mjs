@@ -1,10 +1,11 @@
-// The module for web pages in the engine of WebKit, compared with the program: screens must have the same bytes.
+// Compares the module for web pages, run by WebKit's engine, with the program: screens must have the same bytes.
 //
 //     jsc -m tests/peers/test_webkit.mjs -- MODULE FOLDER
 //
-// For each NAME in the file FOLDER/names: FOLDER/NAME is a stream, FOLDER/NAME.moments has the number of lead-in blocks and
-// then the numbers of blocks after which the screen is compared, and FOLDER/NAME.screens the program's pictures, one after
-// another.
+// The file FOLDER/names lists names. Each NAME has three files:
+// - FOLDER/NAME is a stream;
+// - FOLDER/NAME.moments has the number of lead-in blocks, then the numbers of blocks after which the screen is compared;
+// - FOLDER/NAME.screens has the program's pictures, one after another.
 import { BLOCK_BYTES, HEIGHT, WIDTH, load } from "../../web/ribjasper.mjs";
 
 /* global arguments, readFile, print */
@@ -12,7 +13,7 @@ const [MODULE, FOLDER] = arguments;
 const ribjasper = await load(readFile(MODULE, "binary"));
 for (const name of readFile(`${FOLDER}/names`).trim().split("\n")) {
     const stream = readFile(`${FOLDER}/${name}`, "binary");
-    const wanted = readFile(`${FOLDER}/${name}.screens`, "binary");
+    const expected = readFile(`${FOLDER}/${name}.screens`, "binary");
     const [leadIn, ...moments] = readFile(`${FOLDER}/${name}.moments`).trim().split(/\s+/).map(Number);
     const player = ribjasper.player({ leadIn });
     let fed = 0;
@@ -23,16 +24,16 @@ for (const name of readFile(`${FOLDER}/names`).trim().split("\n")) {
         const picture = player.picture();
         const first = 3 * WIDTH * HEIGHT * k;
         for (let pixel = 0; pixel < WIDTH * HEIGHT; pixel += 1) {
-            for (let part = 0; part < 3; part += 1) {
-                if (picture[4 * pixel + part] !== wanted[first + 3 * pixel + part]) {
+            for (let channel = 0; channel < 3; channel += 1) {
+                if (picture[4 * pixel + channel] !== expected[first + 3 * pixel + channel]) {
                     throw new Error(`the screen of ${name} at block ${moment} differs at pixel ${pixel}`);
                 }
             }
         }
     });
-    if (wanted.length !== 3 * WIDTH * HEIGHT * moments.length || moments.length === 0) {
-        throw new Error(`${name}: ${wanted.length} bytes for ${moments.length} screens`);
+    if (expected.length !== 3 * WIDTH * HEIGHT * moments.length || moments.length === 0) {
+        throw new Error(`${name}.screens has ${expected.length} bytes, which do not fit ${moments.length} screens`);
     }
     player.close();
-    print(`test_webkit: ${moments.length} screens of ${name} are those of the program`);
+    print(`test_webkit: ${moments.length} screens of ${name} equal the program's`);
 }
