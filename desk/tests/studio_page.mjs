@@ -1,10 +1,10 @@
-// Drives the page of the studio in a Chromium without a window: a text is timed by taps, edited, undone, saved and made. The
-// results are printed as JSON.
+// Operates the page of the studio in a headless Chromium: it times a text by taps, edits it, undoes edits, saves the song and makes
+// its files. It writes its results to FOLDER/found.json, which the Python tests check.
 //
 //     node --experimental-websocket desk/tests/studio_page.mjs CHROMIUM ADDRESS FOLDER [times | look]
-// With `times`, it edits a long song, and measures the time until the picture of each edit is on the page. With `look`, the
-// address is a page of `look`, whose names and colours are checked, and which is operated by keys.
-// `look` the address is that of a page of `look`, whose names and colours are checked, and which is used by keys.
+//
+// With `times`, it edits a long song, and measures the time from each edit to its picture. With `look`, ADDRESS is a page of `look`:
+// the script checks its names and colours, and operates it by keys.
 import { join } from "node:path";
 import { writeFileSync } from "node:fs";
 import { Browser, wait } from "../../tests/peers/browser.mjs";
@@ -12,7 +12,7 @@ import { Browser, wait } from "../../tests/peers/browser.mjs";
 const [chromium, address, folder, mode] = process.argv.slice(2);
 const FIRST = 1.2, STEP = 0.9, LINES = 12;
 const browser = await Browser.start(chromium, folder);
-const found = { targets: Array.from({ length: LINES }, (_, number) => FIRST + STEP * number) };
+const results = { targets: Array.from({ length: LINES }, (_, number) => FIRST + STEP * number) };
 
 const key = (key, more = {}) => Promise.all(["rawKeyDown", "keyUp"].map((type) => browser.send("Input.dispatchKeyEvent",
     { type, key, code: key === " " ? "Space" : `Key${key.toUpperCase()}`, windowsVirtualKeyCode: key.toUpperCase().charCodeAt(0), ...more })));
@@ -31,69 +31,69 @@ async function visit(url) {
 }
 
 const position = () => browser.value("document.getElementById('sound').currentTime");
-/** Records the position of the sound all the time. */
-const listen = () => browser.value(`(() => { globalThis.heard = []; const sound = document.getElementById("sound");
-    setInterval(() => { if (!sound.paused) heard.push([performance.now(), sound.currentTime]); }, 15);
-    globalThis.pressed = [];
-    document.addEventListener("keydown", (event) => { if (event.key === " ") pressed.push(event.timeStamp); }, true); })()`);
+/** Starts to record the positions of the sound, and the times at which the space bar is pressed. */
+const startRecording = () => browser.value(`(() => { globalThis.positions = []; const sound = document.getElementById("sound");
+    setInterval(() => { if (!sound.paused) positions.push([performance.now(), sound.currentTime]); }, 15);
+    globalThis.presses = [];
+    document.addEventListener("keydown", (event) => { if (event.key === " ") presses.push(event.timeStamp); }, true); })()`);
 const now = () => performance.timeOrigin + performance.now();
 
-/** Taps near some seconds of the song, and returns the positions of the sound when the browser got the keys: the middle of the
- * positions recorded around each. */
-async function taps(targets, rate) {
-    const [began, at] = await browser.value("[performance.timeOrigin + performance.now(), document.getElementById('sound').currentTime]");
-    await browser.value("pressed.length = 0");
+/** Taps near some times of the song, in seconds. Returns the position of the sound when the browser received each key, estimated by
+ * the median of the positions recorded around it. */
+async function tapAt(targets, rate) {
+    const [started, at] = await browser.value("[performance.timeOrigin + performance.now(), document.getElementById('sound').currentTime]");
+    await browser.value("presses.length = 0");
     for (const target of targets) {
-        await wait(began + 1000 * (target - at) / rate - now());
+        await wait(started + 1000 * (target - at) / rate - now());
         await key(" ");
     }
     await wait(500);
     await settled();
     await key("p");
-    const [heard, pressed] = await browser.value("[heard, pressed]");
-    return pressed.map((when) => {
-        const offsets = heard.filter(([time]) => Math.abs(time - when) < 700).map(([time, second]) => second - rate * time / 1000);
+    const [positions, presses] = await browser.value("[positions, presses]");
+    return presses.map((when) => {
+        const offsets = positions.filter(([time]) => Math.abs(time - when) < 700).map(([time, second]) => second - rate * time / 1000);
         return offsets.sort((one, other) => one - other)[offsets.length >> 1] + rate * when / 1000;
     });
 }
 
-async function tapped() {
+async function tapLines() {
     await browser.value("document.querySelector('input[name=unit][value=line]').click()");
     await browser.value("document.activeElement.blur()");
     await key(" ");
     while (await position() < 0.3) {
         await wait(20);
     }
-    found.expected = await taps(found.targets, 1);
+    results.expected = await tapAt(results.targets, 1);
     return (await state()).lines.map((line) => line.words[0].start);
 }
 
-/** Jumps back to a line while the song plays at half speed, and taps its words again; then all of that is undone. */
-async function again() {
+/** Jumps back to a line, taps its words again at half speed, and then undoes these taps. */
+async function tapAgain() {
     const before = JSON.stringify((await state()).lines), count = (await state()).undo;
     await browser.value("document.querySelector('input[name=speed][value=\"0.5\"]').click()");
     await browser.value("document.querySelector('input[name=unit][value=word]').click()");
     await browser.value("document.querySelectorAll('#lines button')[8].click()");
     await browser.value("document.activeElement.blur()");
     await key("Backspace", { code: "Backspace", windowsVirtualKeyCode: 8 });
-    found.back = await browser.value("[studio.line, document.getElementById('sound').currentTime]");
+    results.back = await browser.value("[studio.line, document.getElementById('sound').currentTime]");
     await key(" ");
     await browser.until("!document.getElementById('sound').paused && document.getElementById('sound').currentTime > studio.state.lines[7].words[0].start - 0.8");
-    const first = found.targets[7];
-    found.words = await taps([first, first + 0.2, first + 0.4, first + 0.6, first + 0.8], 0.5);
-    found.tapped = (await state()).lines[7].words.map((word) => word.start);
+    const first = results.targets[7];
+    results.words = await tapAt([first, first + 0.2, first + 0.4, first + 0.6, first + 0.8], 0.5);
+    results.tapped = (await state()).lines[7].words.map((word) => word.start);
     await browser.photograph("studio-2-words");
     for (let undone = (await state()).undo; undone > count; undone -= 1) {
         await control("z");
     }
     await planned();
-    found.again = JSON.stringify((await state()).lines) === before;
+    results.again = JSON.stringify((await state()).lines) === before;
     await browser.value("document.querySelector('input[name=speed][value=\"1\"]').click()");
     await browser.value("document.querySelector('input[name=unit][value=line]').click()");
 }
 
-/** The time until edits of a song are visible, in milliseconds: a word is moved, a line gets other words. */
-async function times() {
+/** Measures the milliseconds until an edit of a song is visible: it moves a word, or replaces the words of a line. */
+async function measureEdits() {
     await visit(address);
     await browser.until("document.body.dataset.planned === '0'");
     await browser.value("document.getElementById('sound').currentTime = 120; studio.times.length = 0");
@@ -104,24 +104,24 @@ async function times() {
         await set("words", `The other words of round ${round}`);
         await planned();
     }
-    found.times = await browser.value("studio.times");
-    found.lines = (await state()).lines.length;
+    results.times = await browser.value("studio.times");
+    results.lines = (await state()).lines.length;
 }
 
-/** The names and roles of the controls without a name: an empty list if all have one. */
+/** The roles of the controls without a name. */
 async function nameless() {
     const { nodes } = await browser.send("Accessibility.getFullAXTree");
-    const wanted = new Set(["button", "textbox", "combobox", "checkbox", "radio", "slider", "spinbutton", "image", "progressbar", "img"]);
-    return nodes.filter((node) => !node.ignored && wanted.has(node.role?.value) && !node.name?.value).map((node) => node.role.value);
+    const roles = new Set(["button", "textbox", "combobox", "checkbox", "radio", "slider", "spinbutton", "image", "progressbar", "img"]);
+    return nodes.filter((node) => !node.ignored && roles.has(node.role?.value) && !node.name?.value).map((node) => node.role.value);
 }
 
-/** The colours of texts whose contrast with their background is below 4.5, by the formula of WCAG 2. */
+/** The texts whose contrast with their background is below 4.5, by the formula of WCAG 2. */
 const faint = () => browser.value(`(() => {
     const parts = (colour) => colour.match(/[\\d.]+/g).map(Number);
     const light = (rgb) => { const [r, g, b] = rgb.map((one) => one / 255).map((one) => (one <= 0.04045 ? one / 12.92 : ((one + 0.055) / 1.055) ** 2.4));
         return 0.2126 * r + 0.7152 * g + 0.0722 * b; };
-    const ground = (item) => { for (let at = item; at; at = at.parentElement) { const found = parts(getComputedStyle(at).backgroundColor);
-        if (found.length < 4 || found[3] === 1) return found.slice(0, 3); } return [255, 255, 255]; };
+    const ground = (item) => { for (let at = item; at; at = at.parentElement) { const colour = parts(getComputedStyle(at).backgroundColor);
+        if (colour.length < 4 || colour[3] === 1) return colour.slice(0, 3); } return [255, 255, 255]; };
     return [...document.querySelectorAll("body *")].filter((item) => item.offsetParent && !item.disabled && !item.closest("select, audio")
         && [...item.childNodes].some((node) => node.nodeType === 3 && node.data.trim())).map((item) => {
         const [low, high] = [light(parts(getComputedStyle(item).color).slice(0, 3)), light(ground(item))].sort((one, other) => one - other);
@@ -129,48 +129,48 @@ const faint = () => browser.value(`(() => {
     }).filter(([ratio]) => ratio < 4.5);
 })()`);
 
-async function main() {
+async function testStudio() {
     await visit(address);
     await browser.look(1280, 1000, "light");
     await browser.photograph("studio-1-text");
-    found.begun = (await state()).untimed.length;
-    await listen();
-    found.starts = await tapped();
+    results.begun = (await state()).untimed.length;
+    await startRecording();
+    results.starts = await tapLines();
     await planned();
     await browser.photograph("studio-2-tapped");
 
-    await again();
+    await tapAgain();
 
-    // An edit, its pictures, and the results of undo and redo.
+    // Edits a line, moves a word, and undoes and redoes both.
     const lines = JSON.stringify((await state()).lines);
     await browser.value("document.querySelectorAll('#lines button')[2].click()");
     await set("words", "An|other third line");
     await planned();
-    found.edited = (await state()).lines[2].words.map((word) => word.text);
+    results.edited = (await state()).lines[2].words.map((word) => word.text);
     await browser.value("document.activeElement.blur()");
     await key(".", { code: "Period", windowsVirtualKeyCode: 190 });
     await planned();
-    found.moved = (await state()).lines[2].words[0].start - found.starts[2];
+    results.moved = (await state()).lines[2].words[0].start - results.starts[2];
     await browser.photograph("studio-3-edited");
     await control("z");
     await planned();
     await control("z");
     await planned();
-    found.undone = JSON.stringify((await state()).lines) === lines;
+    results.undone = JSON.stringify((await state()).lines) === lines;
     await control("y");
     await planned();
 
-    // The space bar activates a focused button, and sets no time.
+    // The space bar activates the focused button, and sets no time.
     await browser.value("document.getElementById('undo').focus()");
     const before = await revision();
     await browser.press(" ", "Space", " ");
     await settled();
-    found.spaced = [(await revision()) - before, JSON.stringify((await state()).lines) === lines];
+    results.spaced = [(await revision()) - before, JSON.stringify((await state()).lines) === lines];
     await browser.value("document.activeElement.blur()");
     await control("y");
     await planned();
 
-    // A word is dragged on the sound.
+    // Drags a word on the waveform.
     await browser.value("document.querySelectorAll('#lines button')[5].click()");
     const start = (await state()).lines[5].words[0].start;
     const box = await browser.value(`(() => { const box = document.querySelector("#bars button.chosen").getBoundingClientRect();
@@ -180,68 +180,68 @@ async function main() {
     await mouse("mouseMoved", box[0] + 0.2 * box[2]);
     await mouse("mouseReleased", box[0] + 0.2 * box[2]);
     await planned();
-    found.dragged = (await state()).lines[5].words[0].start - start;
+    results.dragged = (await state()).lines[5].words[0].start - start;
     await control("z");
     await planned();
 
-    found.shown = await browser.value(`(() => { studio.screen.show(8); let sum = 7; for (const one of studio.screen.pixels()) sum = (31 * sum + one) >>> 0; return sum; })()`);
-    found.late = await browser.value("[...studio.late]");
-    found.times = await browser.value("studio.times");
+    results.shown = await browser.value(`(() => { studio.screen.show(8); let sum = 7; for (const one of studio.screen.pixels()) sum = (31 * sum + one) >>> 0; return sum; })()`);
+    results.late = await browser.value("[...studio.late]");
+    results.times = await browser.value("studio.times");
     await control("s");
     await browser.until("document.getElementById('message').textContent.startsWith('saved')");
     await browser.value("document.querySelector('[data-finish=pair]').click()");
     await browser.until("document.getElementById('finished').textContent.startsWith('written') || document.getElementById('finished').textContent.includes('refus')");
-    found.finished = await browser.value("document.getElementById('finished').textContent");
-    found.nameless = await nameless();
-    found.faint = await faint();
+    results.finished = await browser.value("document.getElementById('finished').textContent");
+    results.nameless = await nameless();
+    results.faint = await faint();
     await browser.photograph("studio-4-saved");
     await browser.look(1280, 1000, "dark");
     await wait(200);
-    found.faint.push(...await faint());
+    results.faint.push(...await faint());
     await browser.photograph("studio-5-dark");
     await browser.look(420, 900, "light");
     await wait(200);
-    found.wide = await browser.value("document.documentElement.scrollWidth - document.documentElement.clientWidth");
+    results.wide = await browser.value("document.documentElement.scrollWidth - document.documentElement.clientWidth");
     await browser.photograph("studio-6-narrow");
 
-    // The page is closed and opened again.
+    // Opens the page again.
     const kept = JSON.stringify((await state()).lines);
     await visit(address);
-    found.kept = JSON.stringify((await state()).lines) === kept;
-    found.wrong = browser.events.filter(({ method }) => method === "Runtime.exceptionThrown").map(({ params }) => params.exceptionDetails);
+    results.kept = JSON.stringify((await state()).lines) === kept;
+    results.wrong = browser.events.filter(({ method }) => method === "Runtime.exceptionThrown").map(({ params }) => params.exceptionDetails);
 }
 
-/** A page of `look`: names, colours, keys, and a selected line that follows the song. */
-async function look() {
+/** Tests a page of `look`: its names, its colours, its keys, and the chosen line, which follows the song. */
+async function testLook() {
     await visit(address);
-    found.nameless = await nameless();
-    found.faint = await faint();
+    results.nameless = await nameless();
+    results.faint = await faint();
     await browser.look(1280, 1000, "dark");
     await wait(200);
-    found.faint.push(...await faint());
+    results.faint.push(...await faint());
     const chosen = () => browser.value("[...document.querySelectorAll('#lines button')].findIndex((it) => it.getAttribute('aria-current') === 'true')");
     await browser.value("document.getElementById('sound').currentTime = 7.5");
     await key("p");
     await browser.until("document.getElementById('sound').currentTime > 8.3");
-    found.followed = await chosen();
+    results.followed = await chosen();
     await key("p");
     // The space bar on a focused line jumps to this line, and sets no time.
     await browser.value("document.querySelectorAll('#lines button')[0].focus()");
     await browser.press(" ", "Space", " ");
-    found.jumped = [await chosen(), await position(), await browser.value("document.getElementById('message').textContent")];
+    results.jumped = [await chosen(), await position(), await browser.value("document.getElementById('message').textContent")];
     await browser.value("document.getElementById('time').focus()");
     await browser.press("ArrowRight", "ArrowRight");
-    found.slid = await position();
+    results.slid = await position();
     await browser.value("document.activeElement.blur()");
     await browser.press("ArrowDown", "ArrowDown");
-    found.chosen = await chosen();
+    results.chosen = await chosen();
 }
 
 try {
-    await ({ times, look }[mode] ?? main)();
+    await ({ times: measureEdits, look: testLook }[mode] ?? testStudio)();
 } catch (error) {
-    found.failed = String(error?.stack ?? error);
-    found.text = await browser.value("document.body.innerText").catch(() => "");
+    results.failed = String(error?.stack ?? error);
+    results.text = await browser.value("document.body.innerText").catch(() => "");
 }
-writeFileSync(join(folder, "found.json"), JSON.stringify(found));
+writeFileSync(join(folder, "found.json"), JSON.stringify(results));
 browser.stop();

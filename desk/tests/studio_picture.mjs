@@ -1,4 +1,5 @@
-// Draws docs/studio.png: the page of the studio with the song that is open at ADDRESS.
+// Makes the screenshot studio.png of docs: the page of the studio, with the song that is open at ADDRESS. FOLDER receives the file,
+// and SECOND is the time of the song that is shown.
 //
 //     node --experimental-websocket desk/tests/studio_picture.mjs CHROMIUM ADDRESS FOLDER SECOND
 import { Browser, wait } from "../../tests/peers/browser.mjs";

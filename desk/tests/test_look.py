@@ -192,7 +192,7 @@ class LookTest(FolderTest):
         self.assertEqual(found, [True, True, False, False, True, False, False, False])
         moved = self.node(
             """console.log(JSON.stringify(["ArrowLeft", "ArrowRight", "PageUp", "PageDown", "Home", "End", "x"].map(
-                (key) => look.slid(key, 5, 12))))"""
+                (key) => look.sliderTarget(key, 5, 12))))"""
         )
         self.assertEqual(moved, [4, 6, 12, 0, 0, 12, None])
 

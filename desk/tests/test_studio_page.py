@@ -57,7 +57,8 @@ def stamp(hundredths: int) -> str:
 @needs_node
 class TimesTest(FolderTest):
     def node(self, code: str) -> Any:
-        names = "spelled, secondsOf, marked, unmarked, tapsIn, nextTarget, firstTarget, lineAt, tappedAt, SoundClock, isOwnKey"
+        names = "formatTime, parseTime, joinSyllables, splitSyllables, tapCount, nextTarget, firstTarget, lineAt"
+        names += ", tappedAt, SoundClock, isOwnKey"
         module = self.write("a.mjs", f"import {{ {names} }} from {json.dumps(TIMES.as_uri())};\n{code}")
         ran = subprocess.run(["node", str(module)], capture_output=True, text=True, timeout=60)
         self.assertEqual(ran.returncode, 0, ran.stderr)
@@ -66,9 +67,9 @@ class TimesTest(FolderTest):
     def test_times_and_texts(self) -> None:
         found = self.node(
             """const words = (...texts) => texts.map((text) => ({ text, start: null }));
-            console.log(JSON.stringify([spelled(62.345), secondsOf("1:02.5"), secondsOf("62,25"), secondsOf("x"),
-                marked(words("syl", "la", "bles ", "of ", "words")), unmarked("syl|la|bles of words"), unmarked("  a  b "),
-                tapsIn({ whole: true, words: words("one two") })]))"""
+            console.log(JSON.stringify([formatTime(62.345), parseTime("1:02.5"), parseTime("62,25"), parseTime("x"),
+                joinSyllables(words("syl", "la", "bles ", "of ", "words")), splitSyllables("syl|la|bles of words"),
+                splitSyllables("  a  b "), tapCount({ whole: true, words: words("one two") })]))"""
         )
         self.assertEqual(found[:4], ["01:02.35", 62.5, 62.25, None])
         self.assertEqual(found[4], "syl|la|bles of words")

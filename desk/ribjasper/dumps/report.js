@@ -1,19 +1,20 @@
 "use strict";
-// The page of a report: it sorts by a heading or by the form, and hides the rows that the form leaves out. Without this script all
-// rows are shown as they are.
+// The script of a report page. It sorts the rows by a heading or by the form, and hides the rows that the filter excludes. Without
+// this script, the page shows all rows in their original order.
 
-// The order of two cells' values: numbers by size, texts by alphabet, and empty cells last. `turn` is 1 or -1.
+// Compares the values of two cells: numbers by size, texts by alphabet, and empty cells last. `turn` is 1 for ascending order, and
+// -1 for descending order.
 function order(x, y, turn) {
   if (x === "" || y === "") return (x === "") - (y === "");
   return turn * (isNaN(x) || isNaN(y) ? x.localeCompare(y) : x - y);
 }
 
-// Whether a row is shown: its status, the share of its good Q frames (empty if it has no Q) and its name fit the form.
+// Whether the filter shows a row. The status, the name and the share of good Q frames (empty for a dump without Q) must match.
 function isShown(row, form) {
   const least = form.least === "" ? 0 : Number(form.least), most = form.most === "" ? 100 : Number(form.most);
   const share = row.share === "" ? null : 100 * row.share;
-  const within = share === null ? form.least === "" && form.most === "" : share >= least && share <= most;
-  return (form.state === "" || row.status === form.state) && within && row.name.toLowerCase().includes(form.name.toLowerCase());
+  const isWithin = share === null ? form.least === "" && form.most === "" : share >= least && share <= most;
+  return (form.state === "" || row.status === form.state) && isWithin && row.name.toLowerCase().includes(form.name.toLowerCase());
 }
 
 function begin() {
@@ -38,10 +39,10 @@ function begin() {
     if (turn) sort(document.querySelectorAll("th")[place], Number(turn));
   });
   function filter() {
-    const asked = { state: form.state.value, name: form.name.value, least: form.least.value, most: form.most.value };
+    const values = { state: form.state.value, name: form.name.value, least: form.least.value, most: form.most.value };
     let shown = 0;
     for (const row of rows) {
-      row.hidden = !isShown(row.dataset, asked);
+      row.hidden = !isShown(row.dataset, values);
       shown += !row.hidden;
     }
     message.textContent = shown === rows.length ? "" : `${shown} of ${rows.length} are shown`;
@@ -53,6 +54,6 @@ function begin() {
   filter();
 }
 
-// The tests call the functions in Node; a page begins at once.
+// The tests load this file in Node and call its functions. A page starts it at once.
 if (typeof module === "object") module.exports = { order, isShown };
 else begin();

@@ -1,17 +1,17 @@
 "use strict";
 
-// What keys do with the lines of a song; nothing here knows of the page.
+// The first functions edit the lines of a song. They do not use the page.
 
 const STEP = 0.05;
 
-/** A time as LRC spells it. */
-function spelled(seconds) {
+/** A time in the format of LRC, as 01:02.50. */
+function formatTime(seconds) {
   const hundredths = Math.max(0, Math.round(seconds * 100));
   const pad = (number) => String(number).padStart(2, "0");
   return `${pad(Math.floor(hundredths / 6000))}:${pad(Math.floor(hundredths / 100) % 60)}.${pad(hundredths % 100)}`;
 }
 
-/** Moves the beginning of a syllable; those beside it give way, so that times never go back. */
+/** Moves the start of a syllable. Where necessary, it also moves other syllables of the line, so that times never decrease. */
 function setStart(line, place, time) {
   const syllables = line.syllables;
   time = Math.max(0, time);
@@ -27,7 +27,7 @@ function setStart(line, place, time) {
   }
 }
 
-/** Moves a line as a whole. */
+/** Moves all syllables of a line by the same time. */
 function shiftLine(line, by) {
   by = Math.max(by, -line.syllables[0].start);
   for (const syllable of line.syllables) {
@@ -36,7 +36,7 @@ function shiftLine(line, by) {
   }
 }
 
-/** The syllable after one, on its line or the next; the same one where there is none. */
+/** The syllable after a syllable, on its line or the next. After the last syllable, it is this syllable again. */
 function following(lines, line, place) {
   if (place + 1 < lines[line].syllables.length) return [line, place + 1];
   return line + 1 < lines.length ? [line + 1, 0] : [line, place];
@@ -44,22 +44,22 @@ function following(lines, line, place) {
 
 /** The lyrics as an LRC file: lines in the order of their times, with the ends of words and lines, rests, singers and tags. */
 function asLrc(song) {
-  const inFile = (text) => !/[\]\r\n]/.test(text) && text.trim() === text;
+  const isWritable = (text) => !/[\]\r\n]/.test(text) && text.trim() === text;
   const head = [];
-  if (song.title && inFile(song.title)) head.push(`[ti:${song.title}]`);
-  if (song.performer && inFile(song.performer)) head.push(`[ar:${song.performer}]`);
-  for (const [name, value] of song.tags || []) if (/^[a-z#]+$/.test(name) && inFile(value)) head.push(`[${name}:${value}]`);
+  if (song.title && isWritable(song.title)) head.push(`[ti:${song.title}]`);
+  if (song.performer && isWritable(song.performer)) head.push(`[ar:${song.performer}]`);
+  for (const [name, value] of song.tags || []) if (/^[a-z#]+$/.test(name) && isWritable(value)) head.push(`[${name}:${value}]`);
   head.push(...(song.others || []));
-  // All names come first, so that each singer has the same voice wherever the singing begins.
+  // All names come first, so that each singer keeps the same voice, whoever sings first.
   const names = song.singers || [];
   head.push(...names.map((name) => `[singer:${name}]`));
   let voice = names.length ? Math.min(names.length, 4) - 1 : (song.others || []).length ? -1 : 0;
-  // The file of the lyrics has no silence in front.
-  const time = (seconds) => spelled(Math.max(0, seconds - (song.intro || 0)));
+  // The times of the file have no intro in front.
+  const time = (seconds) => formatTime(Math.max(0, seconds - (song.intro || 0)));
   const marks = ["M: ", "F: ", "v3: ", "v4: ", "D: "], isMark = /^([MFD]|v[1-4]|[vV]oice ?[1-4]):/;
   const items = song.lines.map((line) => ({ at: line.syllables[0].start, order: 1, rows: () => rowsOf(line) }));
   const ends = song.lines.filter((line) => line.whole && !line.open).map((line) => line.syllables[line.syllables.length - 1].end);
-  // A rest in front of a line at the same time ends the line before it.
+  // A rest at the time of a line is written before this line, and ends the line before it.
   const stops = new Map([...(song.rests || []), ...ends].map((at) => [time(at), at]));
   for (const [written, at] of stops) items.push({ at, order: 0, rows: () => [`[${written}]`] });
   for (const { what, start, after } of song.inserts || []) {
@@ -81,7 +81,7 @@ function asLrc(song) {
     if (line.whole) return [...rows, begin + text];
     let words = "", until = 0;
     for (const one of line.syllables) {
-      // A word that ends before the next one begins has a time without text behind it.
+      // If a word ends before the next one begins, a time without text follows it.
       if (words && time(until) !== time(one.start) && until < one.start) words += `<${time(until)}>`;
       words += `<${time(one.start)}>${one.text}`;
       until = one.end;
@@ -93,17 +93,17 @@ function asLrc(song) {
   return [...head, ...items.flatMap((item) => item.rows())].join("\n") + "\n";
 }
 
-/** The line that is sung at a time, or the last one that began before it. */
+/** The number of the line that began last before a time, or 0. */
 function lineAt(lines, now) {
-  let found = 0;
+  let last = 0;
   lines.forEach((line, number) => {
     const start = line.syllables[0].start;
-    if (start <= now && start >= lines[found].syllables[0].start) found = number;
+    if (start <= now && start >= lines[last].syllables[0].start) last = number;
   });
-  return found;
+  return last;
 }
 
-/** The changes of the picture: at a block, perhaps colours, and a rectangle of their numbers. */
+/** The list of changes of the picture. Each change has a block number, optional colours, and a rectangle of colour numbers. */
 class Changes {
   constructor(bytes) {
     this.view = new DataView(bytes.buffer, bytes.byteOffset, bytes.byteLength);
@@ -121,7 +121,7 @@ class Changes {
   }
 }
 
-/** The picture at a block. */
+/** The picture at a block, from the list of changes. */
 class Screen {
   constructor(changes, width, height) {
     Object.assign(this, { changes, width, height });
@@ -166,8 +166,8 @@ class Screen {
   }
 }
 
-/** The same by the proved library, which draws the packs of a .cdg file. */
-class Played {
+/** The picture at a block, drawn by the proved library from the packs of a .cdg file. */
+class LibraryScreen {
   constructor(player, packs) {
     Object.assign(this, { player, packs });
     this.clear();
@@ -197,30 +197,31 @@ class Played {
   }
 }
 
-async function inflated(name) {
+/** Decompresses the data in an element of the page. */
+async function inflate(name) {
   const text = document.getElementById(name).textContent.trim();
   const packed = Uint8Array.from(atob(text), (letter) => letter.charCodeAt(0));
   const stream = new Blob([packed]).stream().pipeThrough(new DecompressionStream("deflate"));
   return new Uint8Array(await new Response(stream).arrayBuffer());
 }
 
-/** What draws the picture: the library, if the page holds it and the browser takes it, or otherwise its changes. */
-async function drawn() {
+/** Returns the screen of the library, if the page has the library and the browser can load it; otherwise the screen of changes. */
+async function loadScreen() {
   if (document.getElementById("module").textContent.trim()) {
     try {
-      const script = URL.createObjectURL(new Blob([await inflated("module")], { type: "text/javascript" }));
-      const library = await (await import(script)).load(await inflated("wasm"));
+      const script = URL.createObjectURL(new Blob([await inflate("module")], { type: "text/javascript" }));
+      const library = await (await import(script)).load(await inflate("wasm"));
       document.body.dataset.drawn = "library";
-      return new Played(library.player({ form: "packs" }), await inflated("packs"));
+      return new LibraryScreen(library.player({ form: "packs" }), await inflate("packs"));
     } catch (error) {
       console.log(`the library cannot be loaded: ${error}`);
     }
   }
   document.body.dataset.drawn = "changes";
-  return new Screen(new Changes(await inflated("changes")), 300, 216);
+  return new Screen(new Changes(await inflate("changes")), 300, 216);
 }
 
-/** Whether what has the focus uses a key itself: a button is activated by it, and sound and slider are moved by it. */
+/** Whether the focused element uses a key itself: Space and Enter activate a button, and arrow keys move the sound or the slider. */
 function isOwnKey(event) {
   const target = event.target;
   if (!target || !target.closest) return false;
@@ -228,16 +229,16 @@ function isOwnKey(event) {
   return event.key.startsWith("Arrow") && target.closest("audio, input, [role=slider]") !== null;
 }
 
-/** Where a key moves the line of time, or nothing if it does not. */
-function slid(key, now, most) {
+/** The time to which a key moves the time slider, or null for other keys. */
+function sliderTarget(key, now, most) {
   const steps = { ArrowLeft: -1, ArrowDown: -1, ArrowRight: 1, ArrowUp: 1, PageDown: -10, PageUp: 10, Home: -Infinity, End: Infinity };
   return key in steps ? Math.min(most, Math.max(0, now + steps[key])) : null;
 }
 
-/** The page: the picture, the line of time, the lines, and the keys. */
+/** Builds the page: the picture, the time slider, the lines, and the keys. */
 async function start() {
   const song = JSON.parse(document.getElementById("song").textContent);
-  const screen = await drawn();
+  const screen = await loadScreen();
   const pen = document.getElementById("screen").getContext("2d");
   const sound = document.getElementById("sound"), message = document.getElementById("message");
   const list = document.getElementById("lines"), time = document.getElementById("time");
@@ -270,11 +271,11 @@ async function start() {
     return { item, bar };
   });
 
-  function lay() {
+  function update() {
     song.lines.forEach((one, number) => {
       const { item, bar } = items[number];
       const from = one.syllables[0].start, to = one.syllables[one.syllables.length - 1].end;
-      item.querySelector("time").textContent = spelled(from);
+      item.querySelector("time").textContent = formatTime(from);
       bar.style.left = `${100 * from / song.seconds}%`;
       bar.style.width = `${Math.max(0.3, 100 * (to - from) / song.seconds)}%`;
       for (const element of [item, bar]) element.classList.toggle("chosen", number === line);
@@ -296,7 +297,7 @@ async function start() {
     if (Math.floor(now) !== draw.second) {
       draw.second = Math.floor(now);
       time.setAttribute("aria-valuenow", draw.second);
-      time.setAttribute("aria-valuetext", `${spelled(now)} of ${spelled(song.seconds)}`);
+      time.setAttribute("aria-valuetext", `${formatTime(now)} of ${formatTime(song.seconds)}`);
     }
     follow(now);
     song.lines.forEach((one, number) => {
@@ -305,20 +306,20 @@ async function start() {
     });
   }
 
-  /** While the song plays, the chosen line is the one that is sung; a line with a syllable still to be set stays. */
+  /** Chooses the sung line while the song plays. While the user sets times, the choice stays. */
   function follow(now) {
-    const found = lineAt(song.lines, now);
-    if (found === sungLine) return;
-    sungLine = found;
+    const number = lineAt(song.lines, now);
+    if (number === sungLine) return;
+    sungLine = number;
     if (sound.paused || isSetting) return;
-    [line, place] = [found, 0];
-    lay();
+    [line, place] = [number, 0];
+    update();
   }
 
   function jump(number) {
     [line, place, isSetting] = [number, 0, false];
     sound.currentTime = Math.max(0, song.lines[number].syllables[0].start - 0.5);
-    lay();
+    update();
   }
 
   function save() {
@@ -330,76 +331,76 @@ async function start() {
     message.textContent = `saved as ${song.name}`;
   }
 
-  function changed(what) {
+  function showChange(text) {
     isChanged = true;
-    message.textContent = what;
-    lay();
+    message.textContent = text;
+    update();
   }
 
   const keys = {
     p: () => (sound.paused ? sound.play() : sound.pause()),
     s: save,
-    ArrowUp: () => { [line, place] = [Math.max(0, line - 1), 0]; lay(); },
-    ArrowDown: () => { [line, place] = [Math.min(song.lines.length - 1, line + 1), 0]; lay(); },
-    ArrowLeft: () => { place = Math.max(0, place - 1); lay(); },
-    ArrowRight: () => { place = Math.min(song.lines[line].syllables.length - 1, place + 1); lay(); },
+    ArrowUp: () => { [line, place] = [Math.max(0, line - 1), 0]; update(); },
+    ArrowDown: () => { [line, place] = [Math.min(song.lines.length - 1, line + 1), 0]; update(); },
+    ArrowLeft: () => { place = Math.max(0, place - 1); update(); },
+    ArrowRight: () => { place = Math.min(song.lines[line].syllables.length - 1, place + 1); update(); },
     ",": () => shift(-STEP), ".": () => shift(STEP),
-    "<": () => { shiftLine(song.lines[line], -STEP); changed("the line is earlier"); },
-    ">": () => { shiftLine(song.lines[line], STEP); changed("the line is later"); },
+    "<": () => { shiftLine(song.lines[line], -STEP); showChange("the line is earlier"); },
+    ">": () => { shiftLine(song.lines[line], STEP); showChange("the line is later"); },
     " ": () => {
       if (sound.paused) { sound.play(); return; }
       isSetting = true;
       setStart(song.lines[line], place, sound.currentTime);
       [line, place] = following(song.lines, line, place);
-      changed("set");
+      showChange("set");
     },
   };
 
   function shift(by) {
     const syllable = song.lines[line].syllables[place];
     setStart(song.lines[line], place, syllable.start + by);
-    changed(`${syllable.text.trim()} is at ${spelled(syllable.start)}`);
+    showChange(`${syllable.text.trim()} is at ${formatTime(syllable.start)}`);
   }
 
   document.addEventListener("keydown", (event) => {
     const act = !event.ctrlKey && !event.metaKey && !event.altKey && keys[event.key];
     if (act && !isOwnKey(event)) { event.preventDefault(); act(); }
   });
-  // The line of time is a slider: arrows move by a second, others by ten, or to either end.
+  // Keys of the time slider: arrows move by one second, Page Up and Page Down by ten, Home and End to either end.
   time.setAttribute("aria-valuemax", Math.floor(song.seconds));
   time.addEventListener("keydown", (event) => {
-    const to = slid(event.key, sound.currentTime, song.seconds);
+    const to = sliderTarget(event.key, sound.currentTime, song.seconds);
     if (to === null || event.ctrlKey || event.metaKey || event.altKey) return;
     event.preventDefault();
     sound.currentTime = to;
   });
   sound.addEventListener("pause", () => { isSetting = false; });
   document.getElementById("save").addEventListener("click", save);
-  const point = (event) => {
+  const seekTo = (event) => {
     const box = time.getBoundingClientRect();
     sound.currentTime = song.seconds * Math.min(1, Math.max(0, (event.clientX - box.left) / box.width));
     isSetting = false;
   };
-  time.addEventListener("pointerdown", (event) => { time.setPointerCapture(event.pointerId); point(event); });
-  time.addEventListener("pointermove", (event) => { if (time.hasPointerCapture(event.pointerId)) point(event); });
+  time.addEventListener("pointerdown", (event) => { time.setPointerCapture(event.pointerId); seekTo(event); });
+  time.addEventListener("pointermove", (event) => { if (time.hasPointerCapture(event.pointerId)) seekTo(event); });
   window.addEventListener("beforeunload", (event) => { if (isChanged) event.preventDefault(); });
   sound.addEventListener("seeked", draw);
 
-  // PAGE#12.5 begins at that second.
-  const asked = parseFloat(location.hash.slice(1));
-  if (asked > 0) sound.currentTime = asked;
-  lay();
+  // The address PAGE#12.5 starts at this second.
+  const first = parseFloat(location.hash.slice(1));
+  if (first > 0) sound.currentTime = first;
+  update();
   (function loop() { draw(); requestAnimationFrame(loop); })();
   document.body.dataset.ready = "yes";
 }
 
-/** A sum by which a test knows a picture. */
+/** A checksum by which a test recognizes a picture. */
 function checksum(pixels) {
   return pixels.reduce((sum, pixel) => (sum * 31 + pixel) >>> 0, 7) >>> 0;
 }
 
 if (typeof document === "undefined") {
-  module.exports = { spelled, setStart, shiftLine, following, lineAt, isOwnKey, slid, asLrc, Changes, Screen, checksum };
+  module.exports = { formatTime, setStart, shiftLine, following, lineAt, isOwnKey, sliderTarget, asLrc, Changes, Screen, checksum };
 } else {
   start();
 }

@@ -1,6 +1,6 @@
-// The picture at a time, by the proved library, which draws the packs of a .cdg file.
+// The picture at a time. The proved library draws it from the packs of a .cdg file.
 
-const PACK = 24, PACKS_A_SECOND = 300;
+const PACK = 24, PACKS_PER_SECOND = 300;
 
 export class Screen {
   #player;
@@ -15,30 +15,30 @@ export class Screen {
     return screen;
   }
 
-  /** Takes the packs of an edited song. */
+  /** Replaces the packs after an edit, and starts again with an empty picture. */
   set packs(packs) {
     this.#packs = packs;
-    this.#begin();
+    this.#restart();
   }
 
   get packs() {
     return this.#packs;
   }
 
-  #begin() {
+  #restart() {
     this.#player.begin({ form: "packs" });
     this.#next = 0;
   }
 
-  /** Draws up to a second; whether the picture may be another one. */
+  /** Draws the packs up to a time in seconds. Returns whether the picture may have changed. */
   show(second) {
-    const until = Math.max(0, Math.min(4 * Math.floor(second * PACKS_A_SECOND / 4), Math.floor(this.#packs.length / PACK)));
+    const until = Math.max(0, Math.min(4 * Math.floor(second * PACKS_PER_SECOND / 4), Math.floor(this.#packs.length / PACK)));
     const isBack = until < this.#next;
-    if (isBack) this.#begin();
+    if (isBack) this.#restart();
     if (until > this.#next) this.#player.drawAll(this.#packs.subarray(PACK * this.#next, PACK * until));
-    const changed = isBack || until !== this.#next;
+    const mayDiffer = isBack || until !== this.#next;
     this.#next = until;
-    return changed;
+    return mayDiffer;
   }
 
   pixels() {

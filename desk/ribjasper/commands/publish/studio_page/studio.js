@@ -1,8 +1,8 @@
-// The page of the studio: it asks the desk for each edit, and shows what the desk answers.
+// The page of the studio. It sends each edit to the desk, and shows the state that the desk returns.
 import { Screen } from "./screen.js";
 import {
-  STEP, SoundClock, firstTarget, isOwnKey, lateText, lineAt, marked, nextTarget, secondsOf, span, spelled, tappedAt, tapsIn,
-  unmarked,
+  STEP, SoundClock, firstTarget, isOwnKey, lateText, lineAt, joinSyllables, nextTarget, parseTime, span, formatTime, tappedAt, tapCount,
+  splitSyllables,
 } from "./times.js";
 import { Wave } from "./wave.js";
 
@@ -10,75 +10,76 @@ const $ = (id) => document.getElementById(id);
 const sound = $("sound");
 const VOICES = ["first voice", "second voice", "third voice", "fourth voice", "all"];
 const EXPORTS = { ".srt": "SubRip (.srt)", ".ass": "ASS with \\k (.ass)", ".txt": "UltraStar (.txt)" };
-// How long before a line the song plays when it goes back, in seconds.
-const BEFORE = 2;
+// The key for going back plays the song from this many seconds before the line.
+const SECONDS_BEFORE = 2;
 
-/** Everything that the page knows. `line` is the place of the chosen line, `word` that of the chosen word. */
+/** The state of the page. `line` is the place of the chosen line, `word` the place of the chosen word in it. */
 const app = {
   state: null, choices: null, line: 0, word: 0, more: new Set(), late: new Map(), sent: Promise.resolve(), loop: null, until: null,
   tapped: null, shownLine: -1, times: [],
 };
 
-// What the desk answers
+// Requests to the desk
 
-async function ask(path, table) {
+async function request(path, table) {
   const options = table === undefined ? {} : { method: "POST", headers: { "Content-Type": "application/json" }, body: JSON.stringify(table) };
-  const answer = await fetch(path, options);
-  const found = await answer.json().catch(() => ({ error: `the desk answers ${answer.status}` }));
-  if (found.error) throw new Error(found.error);
-  return found;
+  const response = await fetch(path, options);
+  const result = await response.json().catch(() => ({ error: `the desk answered with status ${response.status}` }));
+  if (result.error) throw new Error(result.error);
+  return result;
 }
 
-/** Sends one request after the other, and takes the state that each brings. */
+/** Sends a request after the ones before it have ended, and shows the state that it returns. */
 function send(path, table) {
-  const began = performance.now();
-  const task = app.sent.then(() => ask(path, table)).then((found) => {
-    const state = found.state ?? found;
-    if (state.lines) take(state, began);
-    return found;
+  const started = performance.now();
+  const task = app.sent.then(() => request(path, table)).then((result) => {
+    const state = result.state ?? result;
+    if (state.lines) showState(state, started);
+    return result;
   });
-  app.sent = task.catch((error) => tell(String(error.message), true));
+  app.sent = task.catch((error) => showMessage(String(error.message), true));
   return task;
 }
 
 const edit = (table) => send("edit", { edit: table }).catch(() => null);
 
-function tell(text, isWrong = false) {
+function showMessage(text, isWrong = false) {
   $("message").textContent = text;
   $("message").classList.toggle("wrong", isWrong);
 }
 
-function take(state, began = performance.now()) {
+/** Shows a state, and fetches its packs if the revision is new. */
+function showState(state, started = performance.now()) {
   const isNew = !app.state || state.revision !== app.state.revision;
   app.state = state;
   app.line = Math.min(app.line, state.lines.length - 1);
-  app.word = Math.min(app.word, Math.max(0, tapsIn(state.lines[app.line]) - 1));
+  app.word = Math.min(app.word, Math.max(0, tapCount(state.lines[app.line]) - 1));
   render();
-  if (isNew) fetchPacks(state.revision, began);
+  if (isNew) fetchPacks(state.revision, started);
 }
 
-/** The packs of a revision, and what is late in them. */
-async function fetchPacks(revision, began) {
-  let answer = await fetch(`packs?revision=${revision}`);
-  while (answer.status === 503) answer = await fetch(`packs?revision=${revision}`);
-  if (!answer.ok || app.screen === undefined) return;
-  const bytes = await answer.arrayBuffer(), long = new DataView(bytes).getUint32(0);
-  const made = JSON.parse(new TextDecoder().decode(new Uint8Array(bytes, 4, long)));
-  if (made.revision < (app.planned ?? -1)) return;
-  app.planned = made.revision;
+/** Fetches the packs of a revision, and the list of its late lines. */
+async function fetchPacks(revision, started) {
+  let response = await fetch(`packs?revision=${revision}`);
+  while (response.status === 503) response = await fetch(`packs?revision=${revision}`);
+  if (!response.ok || app.screen === undefined) return;
+  const bytes = await response.arrayBuffer(), headLength = new DataView(bytes).getUint32(0);
+  const plan = JSON.parse(new TextDecoder().decode(new Uint8Array(bytes, 4, headLength)));
+  if (plan.revision < (app.planned ?? -1)) return;
+  app.planned = plan.revision;
   app.late = new Map();
-  for (const one of made.late) if (!app.late.has(one.line)) app.late.set(one.line, lateText(one));
-  $("plan").textContent = [made.error || made.summary, ...made.notes].filter(Boolean).join("; ");
-  $("plan").classList.toggle("wrong", Boolean(made.error));
-  if (!made.error) app.screen.packs = new Uint8Array(bytes.slice(4 + long));
+  for (const one of plan.late) if (!app.late.has(one.line)) app.late.set(one.line, lateText(one));
+  $("plan").textContent = [plan.error || plan.summary, ...plan.notes].filter(Boolean).join("; ");
+  $("plan").classList.toggle("wrong", Boolean(plan.error));
+  if (!plan.error) app.screen.packs = new Uint8Array(bytes.slice(4 + headLength));
   drawScreen(true);
-  app.times.push(performance.now() - began);
-  document.body.dataset.planned = made.revision;
+  app.times.push(performance.now() - started);
+  document.body.dataset.planned = plan.revision;
   renderLines();
-  app.wave.lay();
+  app.wave.placeBars();
 }
 
-// Showing
+// Display
 
 const lineNow = () => app.state.lines[app.line];
 const wordNow = () => lineNow().words[Math.min(app.word, lineNow().words.length - 1)];
@@ -92,11 +93,11 @@ function render() {
   renderLines();
   renderLine();
   renderSong();
-  app.wave.lay();
+  app.wave.placeBars();
   document.body.dataset.revision = state.revision;
 }
 
-/** Lines that did not change keep their elements, and so the focus. */
+/** Unchanged lines keep their elements, so that they keep the focus. */
 function renderLines() {
   const list = $("lines"), old = new Map([...list.children].map((row) => [Number(row.dataset.key), row]));
   let before = null;
@@ -105,9 +106,9 @@ function renderLines() {
     old.delete(line.key);
     if (before ? before.nextSibling !== row : list.firstChild !== row) list.insertBefore(row, before ? before.nextSibling : list.firstChild);
     before = row;
-    const spoken = JSON.stringify([line, number, app.late.get(number + 1), number === app.line && [app.word, ...app.more]]);
-    if (row.dataset.spoken !== spoken) renderRow(row, line, number);
-    row.dataset.spoken = spoken;
+    const rendered = JSON.stringify([line, number, app.late.get(number + 1), number === app.line && [app.word, ...app.more]]);
+    if (row.dataset.rendered !== rendered) renderRow(row, line, number);
+    row.dataset.rendered = rendered;
   });
   for (const row of old.values()) row.remove();
 }
@@ -125,7 +126,7 @@ function renderRow(row, line, number) {
     row.append(button);
   }
   const time = document.createElement("time");
-  time.textContent = line.words[0].start === null ? "--:--.--" : spelled(line.words[0].start);
+  time.textContent = line.words[0].start === null ? "--:--.--" : formatTime(line.words[0].start);
   const words = line.words.map((word, place) => {
     const item = document.createElement("i");
     item.textContent = word.text;
@@ -147,11 +148,11 @@ function renderRow(row, line, number) {
 function renderLine() {
   const line = lineNow(), word = wordNow();
   $("which").textContent = `Line ${app.line + 1}: ${word.text.trim()}`;
-  fill($("words"), marked(line.words));
+  fill($("words"), joinSyllables(line.words));
   $("voice").value = line.voice;
   $("page").checked = line.page;
-  fill($("from"), word.start === null ? "" : spelled(word.start));
-  fill($("to"), word.end === null ? "" : spelled(word.end));
+  fill($("from"), word.start === null ? "" : formatTime(word.start));
+  fill($("to"), word.end === null ? "" : formatTime(word.end));
   $("glue").disabled = app.line + 1 >= app.state.lines.length;
   $("cut").disabled = app.word === 0;
   renderTarget();
@@ -160,7 +161,7 @@ function renderLine() {
 function renderTarget() {
   const isOn = $("taps").checked, isAll = app.line >= app.state.lines.length;
   const line = app.state.lines[Math.min(app.line, app.state.lines.length - 1)];
-  const texts = line.whole ? unmarked(line.words[0].text) : line.words.map((one) => one.text);
+  const texts = line.whole ? splitSyllables(line.words[0].text) : line.words.map((one) => one.text);
   const text = unit() === "line" ? texts.join("") : texts[Math.min(app.word, texts.length - 1)];
   $("target").textContent = isOn ? (isAll || app.isDone ? "Done: all is timed" : `Tap: ${text.trim()}`) : "Tap (off)";
   $("tap").classList.toggle("on", isOn && !sound.paused);
@@ -189,25 +190,25 @@ function renderSong() {
   $("pictures").replaceChildren(...state.pictures.map(({ what, start, after }, place) => {
     const item = document.createElement("li"), button = document.createElement("button");
     button.type = "button";
-    button.textContent = `${what} at ${spelled(start ?? after)} ✕`;
-    button.setAttribute("aria-label", `Remove ${what} at ${spelled(start ?? after)}`);
+    button.textContent = `${what} at ${formatTime(start ?? after)} ✕`;
+    button.setAttribute("aria-label", `Remove ${what} at ${formatTime(start ?? after)}`);
     button.addEventListener("click", () => edit({ do: "unpicture", place }));
     item.append(button);
     return item;
   }));
 }
 
-/** A value that the user is typing stays. */
+/** Sets the value of a field, except while the user edits it. */
 function fill(field, value) {
   if (document.activeElement !== field || field.dataset.filled === field.value) field.value = value;
   field.dataset.filled = String(value);
 }
 
 function options(list, pairs, value) {
-  const spoken = JSON.stringify(pairs);
-  if (list.dataset.spoken !== spoken) {
+  const rendered = JSON.stringify(pairs);
+  if (list.dataset.rendered !== rendered) {
     list.replaceChildren(...pairs.map(([name, text]) => new Option(text, name)));
-    list.dataset.spoken = spoken;
+    list.dataset.rendered = rendered;
   }
   list.value = value;
 }
@@ -218,7 +219,7 @@ function drawScreen(always = false) {
   $("screen").getContext("2d").putImageData(app.screen.image(), 0, 0);
 }
 
-// Choosing
+// Choice of lines and words
 
 const isChosen = (key, place) => app.state.lines[app.line]?.key === key && place === app.word || app.more.has(`${key}.${place}`);
 
@@ -227,13 +228,13 @@ function choose(line, word = 0, isMore = false) {
   if (isMore) app.more.add(`${lineNow().key}.${app.word}`);
   else app.more.clear();
   app.line = Math.max(0, Math.min(app.state.lines.length - 1, line));
-  app.word = Math.max(0, Math.min(Math.max(lineNow().words.length, tapsIn(lineNow())) - 1, word));
+  app.word = Math.max(0, Math.min(Math.max(lineNow().words.length, tapCount(lineNow())) - 1, word));
   app.isDone = false;
   renderLines();
   renderLine();
-  app.wave.lay();
+  app.wave.placeBars();
   $("lines").children[app.line].scrollIntoView({ block: "nearest" });
-  // The focus goes with the choice.
+  // The focus follows the choice.
   if (isOnBars) app.wave.focus();
   if (isOnLines) $("lines").children[app.line].firstElementChild.focus();
 }
@@ -262,10 +263,10 @@ function move(by, key = lineNow().key, place = app.word) {
 
 const unique = (pairs) => [...new Map(pairs.map((pair) => [pair.join("."), pair])).values()];
 
-function drag(key, place, part, by) {
+function drag(key, place, edge, by) {
   const word = app.state.lines[placeOf(key)].words[place];
-  if (part === "start") edit({ do: "start", line: key, word: place, at: Math.max(0, word.start + by) });
-  else if (part === "end") edit({ do: "end", line: key, word: place, at: Math.max(0, word.end + by) });
+  if (edge === "start") edit({ do: "start", line: key, word: place, at: Math.max(0, word.start + by) });
+  else if (edge === "end") edit({ do: "end", line: key, word: place, at: Math.max(0, word.end + by) });
   else move(by, key, place);
 }
 
@@ -276,11 +277,11 @@ function seek(second) {
 }
 
 function play() {
-  if (sound.paused) sound.play().catch((error) => tell(`the sound cannot be played: ${error.message}`, true));
+  if (sound.paused) sound.play().catch((error) => showMessage(`the sound cannot be played: ${error.message}`, true));
   else sound.pause();
 }
 
-function hear() {
+function playWord() {
   const word = wordNow();
   if (word.start === null) return;
   [app.until, app.loop] = [Math.max(word.start + 0.15, word.end), null];
@@ -302,7 +303,7 @@ function loop() {
 
 const clock = new SoundClock();
 
-/** Where the sound was when a key was pressed. */
+/** The position of the sound when a key was pressed. */
 function pressedAt(stamp) {
   clock.add(performance.now(), sound.currentTime, sound.playbackRate);
   return tappedAt(clock, stamp, Number($("late").value) || 0);
@@ -310,7 +311,7 @@ function pressedAt(stamp) {
 
 const unit = () => document.querySelector("input[name=unit]:checked").value;
 
-/** Sets the time of what is next, as it was when the key was pressed. */
+/** Sets the time of the chosen line or word to the position when the key was pressed, and chooses the next one. */
 function tap(stamp) {
   if (!$("taps").checked) return;
   if (sound.paused) {
@@ -331,16 +332,16 @@ function tap(stamp) {
   $("lines").children[app.line].scrollIntoView({ block: "nearest" });
 }
 
-/** Goes back to the line before, or to the beginning of this one, and plays from a little before it. */
+/** Goes back to the beginning of this line, or to the line before if none of its words is tapped, and plays from shortly before it. */
 function back() {
   const isBegun = app.word > 0 || app.isDone;
   choose(isBegun ? app.line : app.line - 1, 0);
   const before = app.state.lines.slice(0, app.line).map(span).filter(Boolean).pop();
   const start = span(lineNow())?.start ?? before?.end ?? 0;
-  seek(start - BEFORE * sound.playbackRate);
+  seek(start - SECONDS_BEFORE * sound.playbackRate);
 }
 
-/** The line that was tapped last ends now. */
+/** Ends the line that was tapped last at the position when the key was pressed. */
 function stopLine(stamp) {
   if (!app.tapped || sound.paused) return;
   const at = pressedAt(stamp);
@@ -351,13 +352,13 @@ function stopLine(stamp) {
 // Saving and finishing
 
 async function save() {
-  const found = await send("save", {}).catch(() => null);
-  if (found) tell(`saved: ${found.written.join(", ")}`);
+  const result = await send("save", {}).catch(() => null);
+  if (result) showMessage(`saved: ${result.written.join(", ")}`);
 }
 
-async function exported(ending) {
-  const found = await send("export", { ending }).catch(() => null);
-  if (found) tell(`written: ${found.written.join("; ")}`);
+async function exportAs(ending) {
+  const result = await send("export", { ending }).catch(() => null);
+  if (result) showMessage(`written: ${result.written.join("; ")}`);
 }
 
 async function finish(what) {
@@ -370,18 +371,18 @@ async function finish(what) {
   while (!job.over) {
     bar.value = job.done;
     await new Promise((done) => { setTimeout(done, 200); });
-    job = await ask("job");
+    job = await request("job");
   }
   bar.value = 1;
   output.textContent = job.error || `written: ${job.message}`;
-  if (what === "album" && !job.error) take(await ask("song"));
+  if (what === "album" && !job.error) showState(await request("song"));
 }
 
-// What keys and fields do
+// Keys and fields
 
 const keys = {
   p: play,
-  h: hear,
+  h: playWord,
   l: loop,
   "+": () => app.wave.zoom(0.5),
   "-": () => app.wave.zoom(2),
@@ -390,21 +391,21 @@ const keys = {
   ArrowUp: () => choose(app.line - 1),
   ArrowDown: () => choose(app.line + 1),
   ArrowLeft: () => (app.word ? choose(app.line, app.word - 1) : app.line && choose(app.line - 1, 1e3)),
-  ArrowRight: () => (app.word + 1 < tapsIn(lineNow()) ? choose(app.line, app.word + 1) : choose(app.line + 1)),
+  ArrowRight: () => (app.word + 1 < tapCount(lineNow()) ? choose(app.line, app.word + 1) : choose(app.line + 1)),
   Backspace: back,
   Enter: (event) => stopLine(event.timeStamp),
   " ": (event) => ($("taps").checked ? tap(event.timeStamp) : play()),
 };
-const control = { z: () => send("undo", {}).catch(() => null), y: () => send("redo", {}).catch(() => null), s: save };
+const controlKeys = { z: () => send("undo", {}).catch(() => null), y: () => send("redo", {}).catch(() => null), s: save };
 
-function pressed(event) {
+function handleKey(event) {
   const isControl = event.ctrlKey || event.metaKey;
   if (isControl && !event.altKey) {
     const name = event.shiftKey && event.key.toLowerCase() === "z" ? "y" : event.key.toLowerCase();
     const isTyping = event.target.closest?.("input[type=text]") && name !== "s";
-    if (control[name] && !isTyping) {
+    if (controlKeys[name] && !isTyping) {
       event.preventDefault();
-      control[name]();
+      controlKeys[name]();
     }
     return;
   }
@@ -414,24 +415,24 @@ function pressed(event) {
   if (!event.repeat || event.key !== " ") keys[event.key](event);
 }
 
-/** What a field changes, when its value is another one. */
+/** Calls `change` with the field when its value changes. */
 function onChange(id, change) {
   $(id).addEventListener("change", () => change($(id)));
 }
 
-const look = (table) => edit({ do: "look", look: table });
+const editLook = (table) => edit({ do: "look", look: table });
 
-/** Words are divided into syllables, in one line or in all lines without times. */
+/** Divides words into syllables, in one line or, with null, in all lines without times. */
 const divide = (line) => send("divide", { line, language: $("language").value }).catch(() => null);
 
 function wireLine() {
-  onChange("words", (field) => edit({ do: "text", line: lineNow().key, texts: unmarked(field.value) }));
+  onChange("words", (field) => edit({ do: "text", line: lineNow().key, texts: splitSyllables(field.value) }));
   onChange("voice", (field) => edit({ do: "voice", lines: unique([lineNow().key, ...chosenWords().map(([key]) => key)].map((key) => [key])).flat(), voice: Number(field.value) }));
   onChange("page", (field) => edit({ do: "page", line: lineNow().key, page: field.checked }));
   for (const [id, kind] of [["from", "start"], ["to", "end"]]) {
     onChange(id, (field) => {
-      const at = secondsOf(field.value);
-      if (at === null) tell(`${field.value} is not a time like 01:02.50`, true);
+      const at = parseTime(field.value);
+      if (at === null) showMessage(`${field.value} is not a time like 01:02.50`, true);
       else edit({ do: kind, line: lineNow().key, word: Math.min(app.word, lineNow().words.length - 1), at });
     });
   }
@@ -451,42 +452,42 @@ function wireSong() {
   onChange("title", (field) => edit({ do: "head", title: field.value }));
   onChange("performer", (field) => edit({ do: "head", performer: field.value }));
   onChange("singers", (field) => edit({ do: "head", singers: field.value.split(",").map((name) => name.trim()).filter(Boolean) }));
-  onChange("style", (field) => look({ style: field.value }));
-  onChange("rows", (field) => look({ rows: field.value ? Number(field.value) : null }));
-  onChange("image", (field) => look({ title: field.value }));
-  onChange("between", (field) => look({ between: field.value ? [field.value] : [] }));
-  for (const id of ["size", "lead", "intro"]) onChange(id, (field) => look({ [id]: field.value === "" ? null : Number(field.value) }));
-  for (const id of ["sweep", "legend", "rests"]) onChange(id, (field) => look({ [id]: field.checked }));
+  onChange("style", (field) => editLook({ style: field.value }));
+  onChange("rows", (field) => editLook({ rows: field.value ? Number(field.value) : null }));
+  onChange("image", (field) => editLook({ title: field.value }));
+  onChange("between", (field) => editLook({ between: field.value ? [field.value] : [] }));
+  for (const id of ["size", "lead", "intro"]) onChange(id, (field) => editLook({ [id]: field.value === "" ? null : Number(field.value) }));
+  for (const id of ["sweep", "legend", "rests"]) onChange(id, (field) => editLook({ [id]: field.checked }));
   $("place").addEventListener("click", () => {
     if ($("picture").value) edit({ do: "picture", what: $("picture").value, at: Math.round(100 * sound.currentTime) / 100 });
-    else tell("choose a picture first", true);
+    else showMessage("choose a picture first", true);
   });
   for (const button of document.querySelectorAll("[data-finish]")) button.addEventListener("click", () => finish(button.dataset.finish));
 }
 
-/** After a click the space bar goes on setting times, and does not press the button that was clicked. */
-function handOver(event) {
+/** Moves the focus to the tap button after a click, so that the space bar sets times and does not press the clicked button. */
+function focusTap(event) {
   if (event.detail && $("taps").checked) $("tap").focus();
 }
 
 function wire() {
-  document.addEventListener("keydown", pressed);
+  document.addEventListener("keydown", handleKey);
   for (const name of ["undo", "redo"]) $(name).addEventListener("click", () => send(name, {}).catch(() => null));
   $("save").addEventListener("click", save);
   onChange("export", (field) => {
     const ending = field.value;
     field.value = "";
-    if (ending) exported(ending);
+    if (ending) exportAs(ending);
   });
-  $("play").addEventListener("click", (event) => { play(); handOver(event); });
-  $("back").addEventListener("click", (event) => { back(); handOver(event); });
-  $("stop").addEventListener("click", (event) => { stopLine(event.timeStamp); handOver(event); });
-  $("hear").addEventListener("click", hear);
+  $("play").addEventListener("click", (event) => { play(); focusTap(event); });
+  $("back").addEventListener("click", (event) => { back(); focusTap(event); });
+  $("stop").addEventListener("click", (event) => { stopLine(event.timeStamp); focusTap(event); });
+  $("hear").addEventListener("click", playWord);
   $("loop").addEventListener("click", loop);
   $("in").addEventListener("click", () => keys["+"]());
   $("out").addEventListener("click", () => keys["-"]());
   $("tap").addEventListener("pointerdown", (event) => tap(event.timeStamp));
-  // A button is pressed by other means too, as by a screen reader.
+  // A click without a pointer, as from a screen reader.
   $("tap").addEventListener("click", (event) => { if (!event.detail && !event.pointerType) tap(event.timeStamp); });
   $("tap").addEventListener("keyup", (event) => { if (event.key === " ") event.preventDefault(); });
   $("seek").addEventListener("input", () => seek(Number($("seek").value)));
@@ -496,12 +497,12 @@ function wire() {
   for (const name of ["play", "pause"]) sound.addEventListener(name, () => { $("play").textContent = sound.paused ? "Play" : "Pause"; renderTarget(); });
   for (const name of ["seeking", "playing", "pause", "waiting"]) sound.addEventListener(name, () => clock.clear());
   sound.addEventListener("seeked", () => { drawScreen(true); app.wave.show(sound.currentTime); });
-  $("close").addEventListener("click", () => ask("close", {}).then(() => { tell("The studio is closed. Its journal keeps every edit."); sound.pause(); }));
+  $("close").addEventListener("click", () => request("close", {}).then(() => { showMessage("The studio is closed. Its journal keeps every edit."); sound.pause(); }));
   wireLine();
   wireSong();
 }
 
-/** What changes while time goes on. */
+/** Updates the page for each frame. */
 function tick() {
   const now = sound.currentTime;
   if (!sound.paused) clock.add(performance.now(), now, sound.playbackRate);
@@ -511,7 +512,7 @@ function tick() {
   }
   if (app.loop && now >= app.loop.end) seek(app.loop.start);
   drawScreen();
-  $("clock").textContent = spelled(now);
+  $("clock").textContent = formatTime(now);
   if (document.activeElement !== $("seek") || !sound.paused) $("seek").value = now;
   if (!sound.paused) app.wave.show(now);
   showSung(now);
@@ -541,7 +542,7 @@ async function start() {
     isChosen, drag, seek,
     choose: (key, place, isMore) => choose(placeOf(key), place, isMore),
   });
-  const state = await ask("song");
+  const state = await request("song");
   app.choices = state.choices;
   app.screen = await Screen.load();
   options($("export"), [["", "choose …"], ...state.choices.exports.map((ending) => [ending, EXPORTS[ending]])], "");
@@ -553,15 +554,15 @@ async function start() {
   $("taps").checked = state.untimed.length > 0;
   app.state = state;
   Object.assign(app, firstTarget(state.lines));
-  take({ ...state, revision: state.revision });
+  showState({ ...state, revision: state.revision });
   fetchPacks(state.revision, performance.now());
   wire();
   tick();
   $("lines").children[app.line].scrollIntoView({ block: "nearest" });
   app.wave.peaks = await (await fetch("peaks")).arrayBuffer();
-  tell(state.undo ? `${state.undo} edits are restored from the journal` : "");
+  showMessage(state.undo ? `${state.undo} edits are restored from the journal` : "");
   document.body.dataset.ready = "yes";
 }
 
 globalThis.studio = app;
-start().catch((error) => tell(String(error.message), true));
+start().catch((error) => showMessage(String(error.message), true));

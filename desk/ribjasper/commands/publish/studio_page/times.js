@@ -1,46 +1,46 @@
-// Times and texts of lines; nothing here knows of the page.
+// Functions for the times and texts of lines. They do not use the page.
 
 export const STEP = 0.05;
 
-/** A time as LRC spells it. */
-export function spelled(seconds) {
+/** A time in the format of LRC, as 01:02.50. */
+export function formatTime(seconds) {
   const hundredths = Math.max(0, Math.round(seconds * 100));
   const pad = (number) => String(number).padStart(2, "0");
   return `${pad(Math.floor(hundredths / 6000))}:${pad(Math.floor(hundredths / 100) % 60)}.${pad(hundredths % 100)}`;
 }
 
-/** The seconds of a time like 1:02.5 or 62.5, or null. */
-export function secondsOf(text) {
+/** The seconds of a text like 1:02.5 or 62.5, or null if it is not a time. */
+export function parseTime(text) {
   const found = /^\s*(?:(\d{1,3}):)?(\d{1,4})(?:[.,](\d{1,3}))?\s*$/.exec(text);
   return found ? 60 * Number(found[1] ?? 0) + Number(found[2]) + Number(`0.${found[3] ?? 0}`) : null;
 }
 
-/** The words of a line as one text, with a mark between two syllables of a word. */
-export function marked(words) {
+/** The words of a line as one text, with | between two syllables of a word. */
+export function joinSyllables(words) {
   return words.map((word, at) => {
     const joins = at + 1 < words.length && !/\s$/.test(word.text) && !/^\s/.test(words[at + 1].text);
     return joins ? `${word.text}|` : word.text;
   }).join("").trim();
 }
 
-/** The texts of the syllables of such a text; blanks belong to the syllable in front of them. */
-export function unmarked(text) {
+/** The syllables of such a text. Blanks belong to the syllable in front of them. */
+export function splitSyllables(text) {
   return text.trim().split("|").flatMap((part) => part.match(/\s*\S+\s*/g) ?? []);
 }
 
-/** How many taps a line takes: a line with one time for all words is tapped word by word again. */
-export function tapsIn(line) {
-  return line.whole ? Math.max(1, unmarked(line.words.map((word) => word.text).join("")).length) : line.words.length;
+/** The number of taps for a line. A line with one time for all its words is tapped word by word too. */
+export function tapCount(line) {
+  return line.whole ? Math.max(1, splitSyllables(line.words.map((word) => word.text).join("")).length) : line.words.length;
 }
 
-/** What is tapped after a word or a line: the number of a line, and the place of a word; the line's number is their count
- * behind the last. */
+/** The target of the tap after a word or a line: the number of its line, and the place of its word. After the last target, the line
+ * number equals the number of lines. */
 export function nextTarget(lines, line, word, unit) {
-  if (unit === "word" && word + 1 < tapsIn(lines[line])) return { line, word: word + 1 };
+  if (unit === "word" && word + 1 < tapCount(lines[line])) return { line, word: word + 1 };
   return { line: line + 1, word: 0 };
 }
 
-/** The first word without a time, or the first of all. */
+/** The first word without a time, or the first word of the song if all have times. */
 export function firstTarget(lines) {
   for (let line = 0; line < lines.length; line++) {
     const word = lines[line].words.findIndex((one) => one.start === null);
@@ -49,37 +49,38 @@ export function firstTarget(lines) {
   return { line: 0, word: 0 };
 }
 
-/** The number of the line that is sung at a time, or the last one that began before it, or -1. */
+/** The number of the line that began last before a time, or -1. */
 export function lineAt(lines, now) {
-  let found = -1, latest = -1;
+  let last = -1, latest = -1;
   lines.forEach((line, number) => {
     const start = line.words[0].start;
-    if (start !== null && start <= now && start >= latest) [found, latest] = [number, start];
+    if (start !== null && start <= now && start >= latest) [last, latest] = [number, start];
   });
-  return found;
+  return last;
 }
 
-/** From and to when a line is sung, or null. */
+/** The start and the end of the singing of a line, or null if the line has no times. */
 export function span(line) {
   const timed = line.words.filter((word) => word.start !== null);
   return timed.length ? { start: timed[0].start, end: timed[timed.length - 1].end } : null;
 }
 
-// So many of the last samples of the sound's clock are kept; one that is off by more seconds is a jump of the sound.
+// The number of positions that the clock keeps, and the number that it needs for a median. A position that differs from the median
+// by more than JUMP seconds is a jump of the sound.
 const SAMPLES = 30, LEAST_SAMPLES = 5, JUMP = 0.06;
 
-/** The clock of the sound. Browsers report where the sound is in steps, and late if the machine is busy; so the position
- * follows from many reports since the sound plays without a break. */
+/** A clock that estimates the position of the sound. Browsers report the position in steps, and late if the machine is busy. The
+ * clock therefore uses the median of many reports from the time since the last jump. */
 export class SoundClock {
   #offsets = [];
   #rate = 1;
 
-  /** Forgets what was before a jump of the sound. */
+  /** Discards the positions from before a jump of the sound. */
   clear() {
     this.#offsets = [];
   }
 
-  /** The sound is at `current` seconds at a time in milliseconds. */
+  /** Adds a report: at `now` milliseconds, the sound is at `current` seconds and plays at speed `rate`. */
   add(now, current, rate) {
     if (rate !== this.#rate) this.clear();
     this.#rate = rate;
@@ -87,7 +88,7 @@ export class SoundClock {
     if (this.#offsets.length > SAMPLES) this.#offsets.shift();
   }
 
-  /** Where the sound was at a time, in seconds. */
+  /** The position of the sound, in seconds, at a time in milliseconds. */
   at(stamp) {
     const count = this.#offsets.length, last = this.#offsets[count - 1];
     const middle = [...this.#offsets].sort((one, other) => one - other)[count >> 1];
@@ -96,12 +97,12 @@ export class SoundClock {
   }
 }
 
-/** The time that a tap sets: hundredths of a second, as LRC has them. */
+/** The time that a tap sets, rounded to hundredths of a second as in LRC. */
 export function tappedAt(clock, stamp, lateness) {
   return Math.max(0, Math.round(100 * clock.at(stamp - lateness)) / 100);
 }
 
-/** What is said of a line that is late. */
+/** The message about a late line. */
 export function lateText({ what, seconds }) {
   const number = seconds.toFixed(2);
   return {
@@ -112,7 +113,7 @@ export function lateText({ what, seconds }) {
   }[what];
 }
 
-/** Whether what has the focus uses a key itself. */
+/** Whether the focused element uses a key itself. */
 export function isOwnKey(event) {
   const target = event.target;
   if (!target || !target.closest) return false;
