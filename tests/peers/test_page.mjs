@@ -571,7 +571,7 @@ async function tryZips(browser, { packs }) {
     const mixed = [{ name: "a.cdg", bytes: one, method: 14 }, { name: "b.cdg", bytes: one, flags: 1 }, { name: "c.cdg", bytes: other }];
     assert.match(await open("mixed.zip", mixed), /^c\.cdg: /);
     assert.deepEqual(await browser.value("[...document.querySelectorAll('#list li')].map((it) => it.textContent)"),
-        ["mixed.zip/a.cdg: is compressed by LZMA, which this page does not read", "mixed.zip/b.cdg: is encrypted", "mixed.zip/c.cdg"]);
+        ["mixed.zip/a.cdg: is compressed by LZMA, which this page cannot read", "mixed.zip/b.cdg: is encrypted", "mixed.zip/c.cdg"]);
     for (const [why, entry] of [[/checksum \(CRC\) is wrong/, { crc: 1 }], [/is encrypted/, { flags: 1 }], [/compressed by method 50/, { method: 50 }],
         [/damaged: it cannot be unpacked/, { packed: Buffer.alloc(500, 0xff) }], [/longer than the directory/, { size: 5 }]]) {
         assert.match(await open("wrong.zip", [{ ...song, ...entry }]), why);
