@@ -391,7 +391,7 @@ class MendedStreamTest(MendCase):
             counts = dict(line.split() for line in program("check", "--lead-in", 60, stdin=raw).decode().splitlines())
             self.assertEqual((counts["one"], counts["two"], counts["bad"]), ("0", "0", "0"))
 
-    def test_sectors_that_a_drive_doubted(self) -> None:
+    def test_sectors_with_drive_errors(self) -> None:
         """C2 errors and states of samples are reported, and do not drop a word: here an error-free reading is marked
         where the other one is scratched."""
         other, blocks = self.whole, len(self.whole) // BLOCK
@@ -640,7 +640,7 @@ class PlacingTest(DiscCase):
         gap = with_zeros(self.whole, end - 250, end - 50)
         self.assertEqual(self.mended(gap, worse), self.truth, self.ran.errors)
 
-    def test_a_reading_in_doubt_is_refused(self) -> None:
+    def test_a_reading_with_many_unplaced_blocks_is_refused(self) -> None:
         """Stale frames in a reading without Q that begins and ends elsewhere: the place of its other blocks is
         unknown."""
         worse = self.with_stale(self.bare[BLOCK * 1000 : BLOCK * 4000], 2000, 777, 100)

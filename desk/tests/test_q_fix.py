@@ -184,7 +184,7 @@ class QFixTest(FolderTest):
         self.assertEqual([row["kind"] for row in rows], ["filled", "changed", "changed"])
         self.assertEqual([row["time"] for row in rows[1:]], ["03:08:05", "03:08:10"])
 
-    def test_in_doubt_a_frame_stays(self) -> None:
+    def test_a_doubtful_frame_stays(self) -> None:
         """A changed frame whose partner was damaged, and a pair with one wrong bit in the times and right checks."""
         right = [self.disc.program_frame(150 + block) for block in (400, 900, 905)]
         one_bit = [it[:9] + bytes([it[9] ^ 4]) + it[10:] for it in right]

@@ -189,8 +189,8 @@ def mend(*dumps: Dump, as_stream: bool = False) -> Mended:
         if dump.is_packs:
             raise Refusal(dump.path, f"is {dump.form}: its packs are gathered already, and cannot be mended")
     laid = side_by_side([reading_of(dump) for dump in dumps])
-    if laid.doubts:
-        raise Refusal(dumps[0].path, *laid.doubts)
+    if laid.objections:
+        raise Refusal(dumps[0].path, *laid.objections)
     return mending.mend_laid(laid, as_stream)
 
 

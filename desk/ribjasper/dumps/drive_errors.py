@@ -1,5 +1,5 @@
 """The errors that a drive reported while it read a dump: C2 errors and redumper's states of samples, in files next to
-the dump. They belong to the main channel, but if the drive was unsure of this channel, the subcode is doubtful too."""
+the dump. They belong to the main channel, but if this channel has errors, the subcode may have errors too."""
 import os
 import re
 from typing import NamedTuple
@@ -26,11 +26,11 @@ class DriveErrors(NamedTuple):
         return self.mask.count(1)
 
     def within(self, first: int, end: int) -> int:
-        """The number of doubtful blocks from one up to another."""
+        """The number of marked blocks from one up to another."""
         return self.mask.count(1, first, end)
 
 
-def doubtful_units(path: str, unit: int, blocks: int, table: bytes | None) -> bytes:
+def marked_units(path: str, unit: int, blocks: int, table: bytes | None) -> bytes:
     """A byte for each unit of a file, 1 if one of its bytes, translated by a table, is not zero."""
     mask = bytearray(blocks)
     with open(path, "rb") as file:
@@ -58,7 +58,7 @@ def unit_of(path: str, blocks: int) -> int | None:
 
 
 def drive_errors(path: str, blocks: int) -> DriveErrors | None:
-    """The doubtful blocks of a dump, from the .c2 and .state files next to it, or None if no such file fits the number
+    """The blocks of a dump with errors, from the .c2 and .state files next to it, or None if no such file fits the number
     of blocks."""
     masks, names = [], []
     for name in neighbours(path, (".c2", ".state")):
@@ -66,7 +66,7 @@ def drive_errors(path: str, blocks: int) -> DriveErrors | None:
             unit = unit_of(name, blocks)
             if unit is None:
                 continue
-            masks.append(doubtful_units(name, unit, blocks, _BAD_STATE if unit == SAMPLES else None))
+            masks.append(marked_units(name, unit, blocks, _BAD_STATE if unit == SAMPLES else None))
             names.append(os.path.basename(name))
         except OSError:
             continue

@@ -121,7 +121,7 @@ class Framed:
                 end -= self.slack[piece]
         return Piece(first, end, gap.shift, 0, gap.read) if first < end else None
 
-    def left_out(self) -> int:
+    def unplaced(self) -> int:
         """How many blocks that were read have no place."""
         edges = [
             (gap.first, gap.inner.first, gap.inner.last + 1, gap.end)
@@ -131,7 +131,7 @@ class Framed:
         outside = sum(self.unframed.count(1, it[0], it[1]) + self.unframed.count(1, it[2], it[3]) for it in edges)
         return outside + sum(gap.read for gap in self.gaps if gap.shift is None)
 
-    def in_doubt(self) -> int:
+    def unplaced_with_graphics(self) -> int:
         """How many of these are in gaps with graphics."""
         return sum(gap.read for gap in self.gaps if gap.shift is None and gap.is_busy)
 

@@ -19,8 +19,8 @@ MOST_PLACES, MOST_OTHERS = 16, 8
 # If parts of a gap agree at different places, the gap is halved up to HALVINGS times. No half is shorter than SHORTEST
 # blocks.
 HALVINGS, SHORTEST = 6, 40
-# If more than one in IN_DOUBT blocks of a reading is in doubt, nothing is mended.
-IN_DOUBT = 4
+# If more than this share of the blocks of a reading have graphics but no place, the readings are refused.
+MOST_UNPLACED = 0.25
 
 
 def side_by_side(readings: Sequence[Reading]) -> Laid:
@@ -66,11 +66,11 @@ def laid_of(found: Sequence[Framed]) -> Laid:
     end = max(part.end + part.shift for part in parts)
     out = Laid(laid, start, end - start, 0)
     for it in found:
-        left, doubt, total, path = it.left_out(), it.in_doubt(), it.total(), shown(it.reading.path)
-        if left:
-            out.notes.append(f"{path}: {left} blocks are omitted: no Q frame or pack determines their place")
-        if IN_DOUBT * doubt > total:
-            out.doubts.append(f"no Q frame or pack determines the place of {doubt} of the {total} blocks of {path}")
+        unplaced, busy, total, path = it.unplaced(), it.unplaced_with_graphics(), it.total(), shown(it.reading.path)
+        if unplaced:
+            out.notes.append(f"{path}: {unplaced} blocks are omitted: no Q frame or pack determines their place")
+        if busy > MOST_UNPLACED * total:
+            out.objections.append(f"no Q frame or pack determines the place of {busy} of the {total} blocks of {path}")
     return out
 
 

@@ -68,7 +68,7 @@ class Reading:
 @dataclass
 class Laid:
     """Aligned readings: the absolute time of the first block (if `has_times`), the number of blocks, and how many of
-    these are lead-in. `notes` report omitted blocks; `doubts` are reasons to refuse the readings."""
+    these are lead-in. `notes` report omitted blocks; `objections` are reasons to refuse the readings."""
 
     readings: list[Reading]
     time: int
@@ -76,7 +76,7 @@ class Laid:
     lead_in: int
     has_times: bool = True
     notes: list[str] = field(default_factory=list)
-    doubts: list[str] = field(default_factory=list)
+    objections: list[str] = field(default_factory=list)
 
     @property
     def size(self) -> int:

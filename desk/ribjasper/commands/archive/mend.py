@@ -231,8 +231,8 @@ def run(arguments: argparse.Namespace) -> int:
             return compare(laid, odd, outputs.table(DIFFERENCES, arguments.json))
         if odd and not arguments.force:
             raise Refusal(arguments.files[0], *odd, "--force mends them all the same")
-        if laid.doubts and not arguments.force:
-            raise Refusal(arguments.files[0], *laid.doubts, "--force leaves them out")
+        if laid.objections and not arguments.force:
+            raise Refusal(arguments.files[0], *laid.objections, "--force leaves them out")
         for line in odd:
             tell(line)
         if not is_stream(arguments.output) and not mending.has_graphics(laid):
@@ -247,14 +247,14 @@ def read_all(arguments: argparse.Namespace) -> list[Reading]:
     for path in arguments.unread:
         leave_unread(readings, path)
     for reading in readings:
-        for note in (*reading.loaded.notes(), *doubts(reading)):
+        for note in (*reading.loaded.notes(), *drive_notes(reading)):
             tell(f"{shown(reading.path)}: {note}")
     return readings
 
 
-def doubts(reading: Reading) -> Iterator[str]:
-    """A note on the sectors that a drive doubted. Their words count as usual: a drive marks the main channel, and the
-    subcode of a marked sector is usually right."""
+def drive_notes(reading: Reading) -> Iterator[str]:
+    """A note on the sectors in which a drive reported errors. Their words count as usual: the errors belong to the main
+    channel, and the subcode of such a sector is usually right."""
     survey = reading.loaded.survey
     if errors := drive_errors(reading.path, survey.blocks):
         names = ", ".join(map(shown, errors.names))
