@@ -114,7 +114,7 @@ class AgainTest(FolderTest):
         self.write("dump.c2", bytes(c2))
         (row,) = self.rows(bad_q(stream, [322]))
         self.assertEqual((row[0], row[1], row[5]), ("321", "322", "drive,q"))
-        self.assertIn("1 sectors were doubtful to the drive (dump.c2)", self.ran.errors)
+        self.assertIn("the drive reported errors in 1 sectors (dump.c2)", self.ran.errors)
 
     def test_forms(self) -> None:
         stream = bad_q(program(DISC, 150, DISC.end, 0), [100, 101, 4000])

@@ -203,7 +203,7 @@ class DumpTest(FolderTest):
         self.assertEqual((len(dump.damages()) > 0, dump.packs() != b"", dump.time(LEAD_IN + 203)), (True, True, 203))
         with self.assertRaises(ValueError):
             ribjasper.mend(self.load(first))
-        with self.assertRaisesRegex(ribjasper.Refusal, "cannot be mended"):
+        with self.assertRaisesRegex(ribjasper.Refusal, "no blocks of subcode to mend"):
             ribjasper.mend(self.load(first), self.load(hello_packs(), "c.cdg"))
 
     @needs_numpy

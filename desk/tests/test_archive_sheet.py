@@ -184,9 +184,7 @@ class SheetOfDumpsTest(FolderTest):
             'REM SESSION 01\nFILE "a" BINARY\nTRACK 01 AUDIO\nTRACK 02 AUDIO\nREM SESSION 02\nTRACK 03 MODE1/2352\n',
         )
         ran = desk("sheet", path, "--ccd")
-        self.assertIn(
-            "no frame or file has the start of the lead-out of session 1 begins: it is set by the usual gap", ran.errors
-        )
+        self.assertIn("no frame or file names the start of the lead-out of session 1: the usual gap", ran.errors)
         sheet = configparser.ConfigParser()
         sheet.read_string(ran.out)
         outs = [

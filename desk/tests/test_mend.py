@@ -273,7 +273,7 @@ class KnownReadingsTest(DiscCase):
             names = self.write("one", self.whole), self.write("two", stream)
             ran = desk("mend", *names, "-o", self.folder / "out.cdg")
             self.assertEqual(ran.status, 3, ran.errors)
-            self.assertIn("readings 1 and 2 seem not to be of one disc", ran.errors)
+            self.assertIn("readings 1 and 2 seem to be of different discs", ran.errors)
             self.assertFalse((self.folder / "out.cdg").exists())
             ran = desk("mend", *names, "-o", self.folder / "out.cdg", "--force")
             self.assertIn(ran.status, (0, 1), ran.errors)
@@ -287,14 +287,14 @@ class KnownReadingsTest(DiscCase):
         )
         ran = desk("mend", self.write("one", self.whole), self.write("two", other), "-o", self.folder / "out.cdg")
         self.assertEqual(ran.status, 3, ran.errors)
-        self.assertIn("seem not to be of one disc", ran.errors)
+        self.assertIn("seem to be of different discs", ran.errors)
 
     def test_compare(self) -> None:
         later = known.scratched(self.whole[BLOCK * 150 :], 3, 500, 10)
         ran = desk("mend", self.write("one", self.whole), self.write("two", later), "--compare")
         self.assertEqual(ran.status, 1)
         self.assertIn("the dumps seem to be of one disc", ran.errors)
-        self.assertIn("block n of the first is block n - 150 of the second", ran.errors)
+        self.assertIn("block n of the first dump is block n - 150 of the second dump", ran.errors)
         rows = ran.rows()
         self.assertEqual((rows[0]["first"], rows[0]["last"], rows[0]["from"]), ("0", "149", "00:00:00"))
         differing = sum(int(row["last"]) - int(row["first"]) + 1 for row in rows)
@@ -321,8 +321,8 @@ class MendedStreamTest(MendCase):
         first = self.whole[: BLOCK * 100] + first[BLOCK * 100 :]
         for name in ("out.raw", "out.subcode"):
             stream = self.mended(first, second, name=name)
-            self.assertIn("the lead-in of 60 blocks is that of reading 1", self.ran.errors)
-            self.assertIn(f"block 60 of {self.folder / name} is of the absolute time 00:00:00", self.ran.errors)
+            self.assertIn("the lead-in of 60 blocks comes from reading 1", self.ran.errors)
+            self.assertIn(f"block 60 of {self.folder / name} is at the absolute time 00:00:00", self.ran.errors)
             # Symbols in the last two blocks that belong to no whole word come from a reading; P is never corrected.
             bits = bytes(byte & 0x7F for byte in range(256))
             self.assertEqual(stream[: -2 * BLOCK].translate(bits), self.whole[: -2 * BLOCK].translate(bits))
@@ -404,8 +404,8 @@ class MendedStreamTest(MendCase):
         self.write("reading-0.c2", bytes(c2))
         self.write("reading-1.state", bytes(state))
         self.assertEqual(self.mended(self.whole, other), program("convert", "--lead-in", 60, stdin=self.whole))
-        self.assertRegex(self.ran.errors, r"reading-0: 80 sectors were doubtful to the drive \(reading-0\.c2\)")
-        self.assertRegex(self.ran.errors, r"reading-1: 1 sectors were doubtful to the drive \(reading-1\.state\)")
+        self.assertRegex(self.ran.errors, r"reading-0: the drive reported errors in 80 sectors \(reading-0\.c2\)")
+        self.assertRegex(self.ran.errors, r"reading-1: the drive reported errors in 1 sectors \(reading-1\.state\)")
 
     def test_a_file_that_becomes_shorter(self) -> None:
         """Blocks that are read a second time must still be there."""
@@ -488,7 +488,7 @@ class FaultsTest(MendCase):
         for worse in (stale, stale_busy):
             for readings in ((self.whole, worse), (worse, self.whole)):
                 self.assertEqual(self.mended(*readings), self.truth, self.ran.errors)
-                self.assertIn("have the times of others", self.ran.errors)
+                self.assertIn("repeat the times of other blocks", self.ran.errors)
 
     def test_zeros_of_a_reading_without_graphics_are_never_believed(self) -> None:
         half = self.whole[: BLOCK * (len(self.whole) // BLOCK // 2)]
@@ -536,10 +536,10 @@ class FaultsTest(MendCase):
             map_of = self.write(name, "".join(f"{line}\n" for line in lines).encode())
             ran = desk("mend", first, second, "-o", self.folder / "out.cdg", "--unread", map_of, "--force")
             self.assertEqual(ran.status, 0, ran)
-            self.assertIn("60 blocks were not read", ran.errors)
+            self.assertIn("60 blocks are unread according to", ran.errors)
             self.assertEqual((self.folder / "out.cdg").read_bytes(), self.truth)
         for name, content, cause in (
-            ("three.map", b"0x0 +\n0 96 +\n", "is named as no reading"),
+            ("three.map", b"0x0 +\n0 96 +\n", "belongs to no reading"),
             ("one.map", b"words\n", "not a map of ddrescue"),
         ):
             ran = desk("mend", first, second, "-o", self.folder / "no.cdg", "--unread", self.write(name, content))
@@ -571,14 +571,14 @@ class FaultsTest(MendCase):
     def test_the_limit_of_readings_comes_first(self) -> None:
         ran = desk("mend", *["missing"] * 255, "-o", self.folder / "out.cdg")
         self.assertEqual(ran.status, 2)
-        self.assertIn("no more than 254 readings", ran.errors)
+        self.assertIn("at most 254 readings can be mended", ran.errors)
 
     def test_unknown_endings_and_nothing_to_mend(self) -> None:
         names = self.write("a", known.without_rw(self.whole)), self.write("b", known.without_rw(self.whole))
         for name in ("out.bin", "out.doc", "out.cdg.bak"):
             ran = desk("mend", *names, "-o", self.folder / name)
             self.assertEqual(ran.status, 3, ran)
-            self.assertIn("its ending names nothing", ran.errors)
+            self.assertIn("the name must end in .cdg", ran.errors)
         ran = desk("mend", *names, "-o", self.folder / "out.cdg")
         self.assertEqual(ran.status, 9, ran)
         self.assertIn("nothing to mend", ran.errors)
@@ -612,7 +612,7 @@ class PlacingTest(DiscCase):
             worse = self.with_stale(self.bare, first, other, count)
             for readings in ((gap, worse), (worse, gap)):
                 self.assertEqual(self.mended(*readings), self.truth, (first, other, count, self.ran.errors))
-                self.assertIn("is of the absolute time 00:00:00", self.ran.errors)
+                self.assertIn("is at the absolute time 00:00:00", self.ran.errors)
 
     def test_a_reading_of_the_same_length_where_nothing_is_shared(self) -> None:
         """Only the reading without Q has graphics: it is aligned with a reading of the same length."""
@@ -650,7 +650,7 @@ class PlacingTest(DiscCase):
         ran = desk("mend", *names, "-o", out)
         self.assertEqual(ran.status, 3, ran)
         self.assertIn(f"no Q frame or pack determines the place of 2900 of the 3000 blocks of {names[1]}", ran.errors)
-        self.assertIn("--force leaves them out", ran.errors)
+        self.assertIn("--force mends the readings without these blocks", ran.errors)
         self.assertFalse(out.exists())
         alone = program("convert", "--lead-in", 0, stdin=first, statuses=(0, 1))
         self.assertEqual(self.mended(first, worse, status=1), alone)
@@ -691,7 +691,7 @@ class PlacingTest(DiscCase):
         worse = self.with_stale(self.bare, 2000, 1611, 100)
         gap = with_zeros(self.bare, 3000, 3100)
         self.assertEqual(self.mended(gap, worse), self.truth, self.ran.errors)
-        self.assertIn("no Q frame has its absolute time", self.ran.errors)
+        self.assertIn("no Q frame determines its absolute time", self.ran.errors)
 
 
 if __name__ == "__main__":

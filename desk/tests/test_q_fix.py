@@ -110,7 +110,7 @@ class QFixTest(FolderTest):
         copy, rows = self.fixed(spoiled(stream, 2000))
         self.assertEqual(copy, stream)
         self.assertEqual([row["kind"] for row in rows], ["changed"] * 16 + ["filled"])
-        self.assertIn("16 frames are changed in pairs, as LibCrypt changes them", self.ran.errors)
+        self.assertIn("16 frames belong to pairs like those of LibCrypt", self.ran.errors)
         out = self.folder / "dump.sbi"
         ran = desk("q-fix", self.write("dump", stream), "--sbi", out)
         self.assertEqual(ran.status, 0, ran.errors)
@@ -271,7 +271,7 @@ class QFixTest(FolderTest):
         bare = self.write("bare", self.whole.translate(bytes(byte & 63 for byte in range(256))))
         ran = desk("q-fix", bare)
         self.assertEqual(ran.status, 3)
-        self.assertIn("Q was not read", ran.errors)
+        self.assertIn("its Q channel was not read", ran.errors)
 
 
 if __name__ == "__main__":

@@ -52,7 +52,7 @@ class TextsTest(FolderTest):
         sheet = b'FILE "a.wav" WAVE\nTRACK 01 AUDIO\nINDEX 01 00:00:00\n'
         ran = desk("texts", self.write("dump", author(sheet, "00:01:00", self.folder)))
         self.assertEqual(ran.status, 0)
-        self.assertIn("there is no text pack", ran.errors)
+        self.assertIn("has no text pack", ran.errors)
 
     def test_a_file_of_packs_names_the_option(self) -> None:
         packs = self.packs(hello())
@@ -67,7 +67,7 @@ class TextsTest(FolderTest):
             path = self.write("given", content)
             ran = desk("texts", "--back", path)
             self.assertEqual(ran.status, 3, content)
-            self.assertIn(f"{path}: is not whole packs", ran.errors)
+            self.assertIn(f"{path}: does not consist of whole packs", ran.errors)
         dump = self.write("dump", hello())
         self.assertEqual(desk("texts", dump, "--blocks", self.folder / "out").status, 2)
         self.assertEqual(desk("texts", "--back", dump, "--packs", self.folder / "out").status, 2)

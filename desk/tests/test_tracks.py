@@ -155,7 +155,7 @@ class TracksTest(FolderTest):
         self.check_rows(self.tracks(self.write("disc.cue", "\n".join(lines))), self.cut)
         (self.folder / "disc (Track 2).bin").unlink()
         ran = self.tracks(self.folder / "disc.cue", status=3)
-        self.assertIn("names the file disc (Track 2).bin, which is not there", ran.errors)
+        self.assertIn("names the file disc (Track 2).bin, which does not exist", ran.errors)
 
     def test_a_data_track_begins_with_index_01(self) -> None:
         """The sectors of its pause belong to no track, and a note says so."""
@@ -203,7 +203,7 @@ class TracksTest(FolderTest):
         ran = self.tracks(
             self.image(), "--check", self.write("none.dat", dat({"Other": self.names(others)[1:]})), status=1
         )
-        self.assertIn("no disc of the list has one of its tracks", ran.errors)
+        self.assertIn("no disc in the list has a track of this image", ran.errors)
 
     def test_an_offset_by_the_list(self) -> None:
         """In the list, the audio begins elsewhere in the image, as if another drive had read it."""

@@ -478,7 +478,7 @@ def compare_misplaced(
     if right.sum() >= correct[best].sum():
         return
     totals["misplaced: fewer correct words than the best reading"] += 1
-    if "seem not to be of one disc" in desk_result.lines:
+    if "seem to be of different discs" in desk_result.lines:
         totals["misplaced: of these, refused without --force"] += 1
     is_moved = bool((desk_result.packs != result.packs).any())
     reasons = {

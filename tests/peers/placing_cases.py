@@ -257,7 +257,7 @@ class Case(NamedTuple):
 
 def offset_of(case: Case) -> Optional[int]:
     """The block of the disc at which the output begins, if the command reports it."""
-    found = re.search(r"(?:pack|block) (\d+) of \S+ is of the absolute time (\d+):(\d+):(\d+)", case.output.lines)
+    found = re.search(r"(?:pack|block) (\d+) of \S+ is at the absolute time (\d+):(\d+):(\d+)", case.output.lines)
     if not found:
         return None
     minute, second, frame = (int(it) for it in found.groups()[1:])
@@ -309,7 +309,7 @@ def expected(truth: Truth, files: Sequence[File]) -> Expected:
 
 def reason_of_refusal(output: Output) -> str:
     for words, name in (
-        ("seem not to be of one disc", "not of one disc"),
+        ("seem to be of different discs", "not of one disc"),
         ("have no time", "no time"),
         ("determines the place of", "unknown places"),
         ("no known form", "no dump"),

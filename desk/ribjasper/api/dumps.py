@@ -184,10 +184,10 @@ def mend(*dumps: Dump, as_stream: bool = False) -> Mended:
     reading. Raises Refusal if a dump has only packs, or if its place cannot be found. Whether all readings are of one
     disc is not checked."""
     if not 2 <= len(dumps) <= library.READINGS:
-        raise ValueError(f"from 2 to {library.READINGS} readings are mended, not {len(dumps)}")
+        raise ValueError(f"mend needs from 2 to {library.READINGS} readings, not {len(dumps)}")
     for dump in dumps:
         if dump.is_packs:
-            raise Refusal(dump.path, f"is {dump.form}: its packs are gathered already, and cannot be mended")
+            raise Refusal(dump.path, f"is {dump.form}, which has no blocks of subcode to mend")
     laid = side_by_side([reading_of(dump) for dump in dumps])
     if laid.objections:
         raise Refusal(dumps[0].path, *laid.objections)

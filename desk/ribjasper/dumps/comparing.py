@@ -110,7 +110,7 @@ def read_cue(path: str, content: bytes) -> Cue:
             if time is None:
                 raise Refusal(path, f"line {number}: {words[2]} is not a time")
             if before is None:
-                cue.why_unknown = "the times of later files are not known: a file that the sheet names is not there"
+                cue.why_unknown = "the times of later files are not known: a file that the sheet names is missing"
             else:
                 cue.tracks[-1].indices[int(words[1])] = before + time
     if not cue.tracks:

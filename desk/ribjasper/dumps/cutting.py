@@ -147,7 +147,7 @@ def tracks_of_sheet(path: str) -> CutDisc:
     """The tracks of files of sectors, by their cue sheet."""
     cue = comparing.read_cue(path, read_file(path))
     if cue.missing:
-        raise Refusal(path, f"names the file {cue.missing}, which is not there")
+        raise Refusal(path, f"names the file {cue.missing}, which does not exist")
     stretches = [FileSectors(name, 0, unit, count) for name, unit, count in cue.files]
     image = Image(stretches)
     cut = []

@@ -82,7 +82,7 @@ def mend_laid(laid: Laid, as_stream: bool) -> Mended:
     target, names = (byte * len(out)).from_buffer(out), (byte * len(sources)).from_buffer(sources)
     status = library.call(name)(readings, size, count, 0, target, room, names, words, report)
     if status not in (library.DONE, library.DAMAGED):
-        raise ValueError(f"{name} answers {status}")
+        raise ValueError(f"{name} returned the status {status}")
     totals = report.counts
     counts = [Counts(totals.of_reading[k], totals.dropped[k], report.lost[k]) for k in range(count)]
     return Mended(

@@ -42,7 +42,10 @@ def side_by_side(readings: Sequence[Reading]) -> Laid:
     leave_out_strays(found)
     for it in found:
         if not it.parts():
-            raise Refusal(it.reading.path, "its Q frames have no time, and it is not as long as the others")
+            raise Refusal(
+                it.reading.path,
+                "cannot be aligned: its Q frames have no time, and its length differs from that of the others",
+            )
     return laid_of(found)
 
 

@@ -116,6 +116,6 @@ def readable(reading: Reading, begin: int, stop: int) -> list[Run]:
 
 def read_reading(path: str, words: DumpOptions) -> Reading:
     """A reading as raw blocks, not yet aligned."""
-    loaded = load_raw(path, words, "blocks that could be mended: its packs are gathered already")
+    loaded = load_raw(path, words, "blocks of subcode to mend")
     has_graphics = has_graphics_bits(loaded.stream)
     return Reading(loaded._replace(stream=b"") if loaded.form.is_plain() else loaded, [], has_graphics)

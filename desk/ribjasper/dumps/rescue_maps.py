@@ -35,11 +35,11 @@ def areas(path: str) -> list[Area]:
         first, size = int(area[1], 0), int(area[2], 0)
         if found and first != found[-1].end:
             raise Refusal(
-                path, f"is not a map of ddrescue: an area begins at {area[1]}, which is not where the one before ends"
+                path, f"is not a map of ddrescue: an area begins at {area[1]}, not at the end of the area before"
             )
         found.append(Area(first, first + size, area[3] == READ))
     if not found:
-        raise Refusal(path, "is a map of nothing")
+        raise Refusal(path, "is a map of ddrescue without any area")
     return found
 
 

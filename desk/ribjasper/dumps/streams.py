@@ -71,6 +71,6 @@ def open_stream(path: Path) -> Stream:
         return Stream(packs, PACK, 0, 0)
     pieces = pieces_of(Survey(blocks, RAW, 0).stretches())
     if not pieces:
-        raise Refusal(path, "is all lead-in")
+        raise Refusal(path, "has only a lead-in, and no program")
     zero = -pieces[0].shift
     return Stream(blocks, BLOCK, max(0, zero + PAUSE), max(0, zero))

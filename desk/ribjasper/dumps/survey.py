@@ -92,7 +92,7 @@ class Survey:
         lead_in = max(0, self.lead_in - self.first)
         status = library.call("ribjasper_survey")(start, BLOCK * count, self.form, lead_in, room, count, Surveyed())
         if status != library.DONE:
-            raise ValueError(f"ribjasper_survey answers {status}")
+            raise ValueError(f"ribjasper_survey returned the status {status}")
         return ctypes.string_at(room, ROW * count)
 
     def forget(self) -> None:

@@ -35,7 +35,7 @@ def block_at(loaded: Loaded, at: tuple[bool, int]) -> int:
         return number
     pieces = pieces_of(loaded.survey.stretches())
     if not pieces:
-        raise Refusal(loaded.path, "its Q frames have no time: give the numbers of blocks")
+        raise Refusal(loaded.path, "no Q frame has a time; give --from and --to as block numbers")
     piece = next((it for it in pieces if number < it.end + it.shift), pieces[-1])
     return max(0, number - piece.shift)
 
@@ -43,7 +43,10 @@ def block_at(loaded: Loaded, at: tuple[bool, int]) -> int:
 def target_of(arguments: argparse.Namespace) -> Form:
     named = arguments.to_form or ENDINGS.get(os.path.splitext(arguments.output)[1].lower())
     if named is None:
-        raise Refusal(arguments.output, f"its ending names no form ({', '.join(ENDINGS)}); say --as FORM: {FORM_NAMES}")
+        raise Refusal(
+            arguments.output,
+            f"its ending names no form; use one of {', '.join(ENDINGS)}, or --as with one of {FORM_NAMES}",
+        )
     return FORMS[named]
 
 

@@ -16,9 +16,9 @@ def add_parser(commands: Commands) -> None:
     parser = commands.add_parser(
         "damage",
         help="list the damaged places of a dump",
-        description="Prints a row for each run of damaged blocks that are neighbours, and for each jump of the "
+        description="Prints a row for each run of adjacent damaged blocks, and for each jump of the "
         "times. Blocks are numbered from 0 in the file. A word is counted in the block that completes it. A block of "
-        "96 zeros is empty: a drive returns it after it gave up. Empty blocks before the first and after the last "
+        "96 zeros is empty: drives return zeros if they give up. Empty blocks before the first and after the last "
         "block that was read are unread; they have separate rows and do not count as damage. If a file of C2 errors "
         "(.c2) or redumper's .state is next to the dump, --again also lists the sectors that it marks. The exit "
         "status is 1 if there is damage.",
@@ -66,7 +66,7 @@ def list_to_read_again(loaded: Loaded, form: str) -> str:
     path = shown(loaded.path)
     if errors:
         inside = errors.within(loaded.survey.first, loaded.survey.end)
-        tell(f"{path}: {inside} sectors were doubtful to the drive ({', '.join(map(shown, errors.names))})")
+        tell(f"{path}: the drive reported errors in {inside} sectors ({', '.join(map(shown, errors.names))})")
     if wanted.unplaced:
         tell(f"{path}: {wanted.unplaced} damaged runs are not in the list: no frame has their addresses")
     tell(

@@ -28,7 +28,7 @@ def add_parser(commands: Commands) -> None:
         "-v",
         "--verbose",
         action="store_true",
-        help="for each file without a known form, also print what speaks against each form",
+        help="for each file without a known form, also print why no form fits",
     )
     add_options(parser)
     add_json(parser)

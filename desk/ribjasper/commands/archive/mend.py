@@ -100,11 +100,11 @@ def odd_ones(laid: Laid) -> Iterator[str]:
         if laid.readings[a].is_beside or laid.readings[b].is_beside:
             continue
         if own.all >= TOO_FEW and own.same < LEAST_SHARE * own.all:
-            yield f"readings {a + 1} and {b + 1} seem not to be of one disc: of {own.all} packs that both have {own.same} are the same"
+            yield f"readings {a + 1} and {b + 1} seem to be of different discs: {own.same} of {own.all} common packs are equal"
             continue
         blocks, agree = tracks_that_agree(laid, a, b)
         if blocks and agree < LEAST_SHARE * blocks:
-            yield f"readings {a + 1} and {b + 1} seem not to be of one disc: at {agree} of {blocks} times they are in the same track"
+            yield f"readings {a + 1} and {b + 1} seem to be of different discs: their tracks agree at {agree} of {blocks} times"
 
 
 def tracks_that_agree(laid: Laid, a: int, b: int) -> tuple[int, int]:
@@ -138,7 +138,7 @@ def twice(laid: Laid) -> Iterator[str]:
     for number, reading in enumerate(laid.readings, 1):
         for part in reading.parts if reading.is_beside else ():
             blocks = f"blocks {part.first} to {part.end - 1} of {shown(reading.path)}"
-            yield f"{blocks} have the times of others, from {spelled(part.time)} on: they are reading {number}"
+            yield f"{blocks} repeat the times of other blocks, from {spelled(part.time)} on; they count as reading {number}"
 
 
 def write_stream(content: memoryview, path: str, write: Callable[[bytes], object]) -> None:
@@ -194,12 +194,12 @@ def report_mended(laid: Laid, mended: mending.Mended, table: Table) -> int:
     for reading, counts in zip(laid.readings, mended.counts):
         table.row((reading.path, len(mended.sources), *counts))
     if mended.agreed:
-        tell(f"{mended.agreed} words are those on which two readings agree")
+        tell(f"for {mended.agreed} words, the result is a codeword on which two readings agree")
     if mended.none:
         tell(f"{mended.none} words have no codeword")
     for number, counts in enumerate(mended.counts, 1):
         if counts.left_out:
-            tell(f"{counts.left_out} words of reading {number} are ignored: it has no graphics there, or doubtful ones")
+            tell(f"{counts.left_out} words of reading {number} are ignored: they are idle packs or probably noise")
         if counts.lost:
             tell(f"{counts.lost} error-free words of reading {number} are not in the result")
     return FOUND if mended.none or any(counts.lost for counts in mended.counts) else 0
@@ -207,15 +207,17 @@ def report_mended(laid: Laid, mended: mending.Mended, table: Table) -> int:
 
 def run(arguments: argparse.Namespace) -> int:
     if len(arguments.files) < 2:
-        arguments.error("two readings are needed")
+        arguments.error("at least two readings are needed")
     if len(arguments.files) > library.READINGS:
-        arguments.error(f"no more than {library.READINGS} readings are mended at once")
+        arguments.error(f"at most {library.READINGS} readings can be mended at once")
     if arguments.compare and (len(arguments.files) > 2 or arguments.output or arguments.map or arguments.ddrescue_map):
         arguments.error("--compare needs two dumps and writes no file")
     if not arguments.compare and not arguments.output:
         arguments.error("the following arguments are required: -o/--output")
     if arguments.output and ending_of(arguments.output) not in ("", *ENDINGS):
-        raise Refusal(arguments.output, f"its ending names nothing that is mended ({', '.join(ENDINGS)})")
+        raise Refusal(
+            arguments.output, f"the name must end in {', '.join(ENDINGS[:-1])} or {ENDINGS[-1]}, or have no ending"
+        )
     files = [(arguments.map, kinds.TABLE_OF_BLOCKS), (arguments.ddrescue_map, kinds.DDRESCUE)]
     if arguments.output:
         files.append((arguments.output, kind_of_output(arguments.output)))
@@ -223,16 +225,16 @@ def run(arguments: argparse.Namespace) -> int:
         laid = side_by_side(read_all(arguments))
         if len(laid.readings) > library.READINGS:
             laid.readings = laid.readings[: library.READINGS]
-            tell(f"no more than {library.READINGS} readings are mended at once: parts of files are omitted")
+            tell(f"at most {library.READINGS} readings can be mended at once; the other parts of files are omitted")
         for line in (*twice(laid), *laid.notes):
             tell(line)
         odd = list(odd_ones(laid))
         if arguments.compare:
             return compare(laid, odd, outputs.table(DIFFERENCES, arguments.json))
         if odd and not arguments.force:
-            raise Refusal(arguments.files[0], *odd, "--force mends them all the same")
+            raise Refusal(arguments.files[0], *odd, "--force mends these readings anyway")
         if laid.objections and not arguments.force:
-            raise Refusal(arguments.files[0], *laid.objections, "--force leaves them out")
+            raise Refusal(arguments.files[0], *laid.objections, "--force mends the readings without these blocks")
         for line in odd:
             tell(line)
         if not is_stream(arguments.output) and not mending.has_graphics(laid):
@@ -259,7 +261,7 @@ def drive_notes(reading: Reading) -> Iterator[str]:
     if errors := drive_errors(reading.path, survey.blocks):
         names = ", ".join(map(shown, errors.names))
         inside = errors.within(survey.first, survey.end)
-        yield f"{inside} sectors were doubtful to the drive ({names}); their words count as the others"
+        yield f"the drive reported errors in {inside} sectors ({names}); the words in these sectors count as usual"
 
 
 def leave_unread(readings: Sequence[Reading], path: str) -> None:
@@ -267,13 +269,15 @@ def leave_unread(readings: Sequence[Reading], path: str) -> None:
     stem = os.path.splitext(path)[0]
     own = [it for it in readings if stem in (it.path, os.path.splitext(it.path)[0])]
     if not own:
-        raise Refusal(path, "is named as no reading with .map behind or in place of its ending")
+        raise Refusal(
+            path, "belongs to no reading; name it like a reading, with .map appended or in place of the ending"
+        )
     for reading in own:
         dump, form = reading.loaded.dump, reading.loaded.form
         found = unread_units(areas(path), dump.skip, form.unit, dump.units(form))
         reading.unread = found
         blocks = sum(it.last - it.first + 1 for it in found)
-        tell(f"{shown(reading.path)}: {blocks} blocks were not read, as {shown(path)} says")
+        tell(f"{shown(reading.path)}: {blocks} blocks are unread according to {shown(path)}")
 
 
 def write_mended(arguments: argparse.Namespace, laid: Laid, outputs: Outputs) -> int:
@@ -285,15 +289,15 @@ def write_mended(arguments: argparse.Namespace, laid: Laid, outputs: Outputs) ->
         before = len(lead_in) // BLOCK
         if before:
             write_stream(memoryview(lead_in), arguments.output, out.write)
-            tell(f"the lead-in of {before} blocks is that of reading {number}")
+            tell(f"the lead-in of {before} blocks comes from reading {number}")
     mended = mending.mend_laid(laid, wants_blocks)
     write_stream(mended.content, arguments.output, out.write)
     units = Units("block", BLOCK, before) if wants_blocks else Units("pack", PACK, 0)
     place = f"{units.name} {before} of {shown(arguments.output)}"
     if laid.has_times:
-        tell(f"{place} is of the absolute time {at_time(laid, laid.lead_in)}")
+        tell(f"{place} is at the absolute time {at_time(laid, laid.lead_in)}")
     else:
-        tell(f"{place} is block {laid.lead_in} of each reading: no Q frame has its absolute time")
+        tell(f"{place} is block {laid.lead_in} of each reading: no Q frame determines its absolute time")
     lost = units.lost(mended)
     if arguments.map:
         outputs.write(arguments.map, loss_table(laid, units, lost))
@@ -311,12 +315,12 @@ def compare(laid: Laid, odd: list[str], table: Table) -> int:
     has = [reading.has_graphics for reading in laid.readings[:2]]
     has_both = has[0] == has[1]
     if not has_both:
-        tell(f"the {'second' if has[0] else 'first'} has no channels R to W: only P and Q are compared")
+        tell(f"the {'second' if has[0] else 'first'} dump has no channels R to W: only P and Q are compared")
     first, second = [reading for reading in laid.readings if not reading.is_beside]
     shifts = [next((part.shift for part in it.parts if part.known), None) for it in (first, second)]
     if shifts[0] is not None and shifts[1] is not None:
         offset = shifts[1] - shifts[0]
-        tell(f"block n of the first is block n {'-' if offset >= 0 else '+'} {abs(offset)} of the second")
+        tell(f"block n of the first dump is block n {'-' if offset >= 0 else '+'} {abs(offset)} of the second dump")
     differing = 0
     begins = range(0, laid.blocks, mending.AT_ONCE)
     for begin in progress(begins, len(begins), "parts"):

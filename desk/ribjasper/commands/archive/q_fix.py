@@ -69,20 +69,20 @@ def run(arguments: argparse.Namespace) -> int:
     with Outputs([path], writes, arguments.force) as outputs:
         loaded = load_raw(path, asked(arguments), "Q channel")
         if not loaded.survey.has_q:
-            raise Refusal(path, "Q was not read")
+            raise Refusal(path, "its Q channel was not read")
         found = fixed(Source(loaded))
         table = outputs.table(NAMES, arguments.json)
         for row in found.rows:
             table.row(row)
         if found.changed:
             tell(
-                f"{shown(path)}: {len(found.changed)} frames are changed in pairs, as LibCrypt changes them; they stay"
+                f"{shown(path)}: {len(found.changed)} frames belong to pairs like those of LibCrypt; they stay unchanged"
             )
         elif arguments.sbi or arguments.lsd:
-            raise Refusal(path, "no frames are changed in pairs, as LibCrypt changes them")
+            raise Refusal(path, "has no pairs of frames like those of LibCrypt")
         tell(
             f"{shown(path)}: {len(found.frames)} frames {'are' if arguments.output else 'can be'} filled in, "
-            f"{found.left()} lines remain"
+            f"{found.left()} listed problems remain"
         )
         if arguments.output:
             write_copy(loaded, found.frames, outputs.open(arguments.output))

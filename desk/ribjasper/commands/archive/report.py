@@ -71,7 +71,7 @@ def add_parser(commands: Commands) -> None:
     parser.add_argument(
         "--submission",
         action="store_true",
-        help="describe one dump as databases of discs ask for it, and make no report",
+        help="describe one dump with the facts that disc databases ask for, and make no report",
     )
     parser.add_argument("--json", action="store_true", help="with --submission, write JSON")
     parser.add_argument(
@@ -271,7 +271,7 @@ def run(arguments: argparse.Namespace) -> int:
     if arguments.submission:
         return write_submission(arguments)
     if arguments.output is None or arguments.json:
-        arguments.error("--json goes with --submission" if arguments.json else "a report needs -o DIR")
+        arguments.error("--json needs --submission" if arguments.json else "a report needs -o DIR")
     out = Path(folder_of(arguments.output))
     check_folder(out, arguments.folder, arguments.force)
     with report_outputs(out, arguments.force) as outputs:
@@ -290,7 +290,7 @@ def write_submission(arguments: argparse.Namespace) -> int:
 
 def folder_of(name: str) -> str:
     if name in ("", DASH):
-        raise Refusal(name or "''", "is not the name of a folder, which a report needs")
+        raise Refusal(name or "''", "is not the name of a folder; a report needs a folder")
     return name
 
 

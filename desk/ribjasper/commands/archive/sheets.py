@@ -45,7 +45,7 @@ class SheetWriter:
         for kind in (*COMMANDS, *MENTIONED):
             text = self.disc.texts.get((kind, number))
             if text and not sheet.text(kind, self.encoded(text)):
-                tell(f"the {kind} of track {number:02} cannot be spelled in a sheet: {text!r}")
+                tell(f"the {kind} of track {number:02} cannot be written in a sheet: {text!r}")
 
     def add_track(self, sheet: CueWriter, track: Track) -> None:
         sheet.track(track.number, b"MODE1/2352" if track.control & DATA else b"AUDIO")
@@ -171,7 +171,7 @@ def remarks(loaded: Loaded, source: Source, found: QDisc) -> Iterator[str]:
     numbers = [track.number for track in found.tracks]
     missing = sorted(set(range(numbers[0], numbers[-1] + 1)) - set(numbers))
     if missing:
-        yield f"no frame is left of the tracks {' '.join(map(str, missing))}"
+        yield f"the dump has no Q frame of these tracks: {' '.join(map(str, missing))}"
     for track in found.tracks:
         if track.control & DATA:
             yield f"track {track.number:02} is data, which `author` refuses"
@@ -181,11 +181,11 @@ def remarks(loaded: Loaded, source: Source, found: QDisc) -> Iterator[str]:
     for session in found.sessions:
         if not session.is_sure and session is not found.sessions[-1]:
             how = (
-                "it is set by the usual gap before the next session"
+                "the usual gap before the next session determines it"
                 if session.by == BY_GAP
                 else "it follows the last frame"
             )
-            yield f"no frame or file has the start of the lead-out of session {session.number} begins: {how}"
+            yield f"no frame or file names the start of the lead-out of session {session.number}: {how}"
     yield from found.votes
     yield from found.unsure
     yield from cuts(source, found)
@@ -221,7 +221,7 @@ def add_parser(commands: Commands) -> None:
     what = parser.add_mutually_exclusive_group()
     what.add_argument("--toc", action="store_true", help="write a sheet for cdrdao")
     what.add_argument("--ccd", action="store_true", help="write a sheet for CloneCD")
-    what.add_argument("--compare", metavar="CUE", help="list the differences to this cue sheet, and write no sheet")
+    what.add_argument("--compare", metavar="CUE", help="list the differences from this cue sheet, and write no sheet")
     parser.add_argument(
         "--times",
         choices=[base.value for base in TimeBase],
@@ -262,9 +262,9 @@ def run(arguments: argparse.Namespace) -> int:
     if arguments.compare and arguments.output:
         arguments.error("--compare writes no sheet")
     if arguments.session and not arguments.toc:
-        arguments.error("--session goes with --toc")
+        arguments.error("--session needs --toc")
     if arguments.times == TimeBase.DISC.value and (arguments.toc or arguments.ccd):
-        arguments.error("--times goes with a cue sheet or with --compare")
+        arguments.error("--times needs a cue sheet or --compare")
     kind = kinds.TOC if arguments.toc else kinds.CCD if arguments.ccd else kinds.CUE
     out: str = arguments.output or "-"
     writes = [] if arguments.compare else [(out, kind)]
@@ -287,7 +287,7 @@ def run(arguments: argparse.Namespace) -> int:
         sheet = SheetWriter(source, found, os.fsencode(f"{stem}.wav"), arguments.latin_1, base)
         if any(not text.isascii() for text in found.texts.values()):
             tell(
-                f"{shown(path)}: texts are written in {'Latin-1' if arguments.latin_1 else 'UTF-8; author wants --latin-1'}"
+                f"{shown(path)}: texts are written in {'Latin-1' if arguments.latin_1 else 'UTF-8; author needs --latin-1'}"
             )
         if arguments.toc:
             session = toc_session(path, found, arguments.session)

@@ -78,7 +78,7 @@ def checked_file(path: str, found: Sums, listed: Sequence[Listed]) -> tuple[str,
 
 def run(arguments: argparse.Namespace) -> int:
     if not arguments.tracks and (arguments.offset is not None or any(it is not None for it in asked(arguments))):
-        arguments.error("--offset, --form, --lead-in and --skip go with --tracks")
+        arguments.error("--offset, --form, --lead-in and --skip need --tracks")
     with Outputs([*arguments.files, arguments.check], [(arguments.dat, kinds.DAT)], arguments.force) as outputs:
         return sums_of_tracks(arguments, outputs) if arguments.tracks else sums_of_files(arguments, outputs)
 
@@ -115,9 +115,9 @@ def sums_of_tracks(arguments: argparse.Namespace, outputs: Outputs) -> int:
 
 def said_of(found: cutting.Comparison, count: int) -> str:
     if found.game is None:
-        return "no disc of the list has one of its tracks"
+        return "no disc in the list has a track of this image"
     more = len(found.game.tracks) - count
-    lacks = f"; the disc of the list has {more} more" if more > 0 else ""
+    lacks = f"; the disc in the list has {more} more" if more > 0 else ""
     return f"is {found.game.name}: {found.same} of {count} tracks are the same{lacks}"
 
 

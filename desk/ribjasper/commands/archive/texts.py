@@ -27,7 +27,7 @@ def without_header(path: str, content: bytes) -> bytes:
     if length == 1 and content[-1:] == b"\0":
         content, length = content[:-1], 0
     if length or not content:
-        raise Refusal(path, f"is not whole packs of {TEXT_PACK} bytes")
+        raise Refusal(path, f"does not consist of whole packs of {TEXT_PACK} bytes")
     return content
 
 
@@ -95,7 +95,7 @@ def run(arguments: argparse.Namespace) -> int:
             blocks = lead_in_of_dump(arguments.file, asked(arguments))
         found = text_packs_in(blocks)
         if not found:
-            tell(f"{shown(arguments.file)}: there is no text pack")
+            tell(f"{shown(arguments.file)}: has no text pack")
         if arguments.packs:
             packs = b"".join(found)
             outputs.write(arguments.packs, with_header(packs) if arguments.header else packs)
@@ -106,5 +106,5 @@ def run(arguments: argparse.Namespace) -> int:
             return 0
         write_text(library.texts(blocks, len(blocks) // BLOCK), outputs.printed)
         if more := text_packs.beyond(found):
-            tell(f"{shown(arguments.file)}: there is more, which --all prints: {more}")
+            tell(f"{shown(arguments.file)}: has more, which --all prints: {more}")
     return 0
