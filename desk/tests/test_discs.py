@@ -107,7 +107,7 @@ class ReadTest(FolderTest):
             self.assertIn(why, str(caught.exception))
         with self.assertRaises(Refusal) as caught:
             read_disc(self.folder / "a.cue", SHEET, 100)
-        self.assertIn("need an audio of 00:05:01 at least", str(caught.exception))
+        self.assertIn("need audio of at least 00:05:01", str(caught.exception))
 
 
 class ReasonsTest(unittest.TestCase):

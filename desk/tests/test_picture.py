@@ -140,7 +140,7 @@ class PictureTest(FolderTest):
             (ran.status, "has 3 frames; --frame N chooses one, from 1 to 3" in ran.errors), (3, True), ran.errors
         )
         ran = desk("picture", self.folder / "a.gif", "--frame", "4")
-        self.assertEqual((ran.status, "has 3 frames, and no number 4" in ran.errors), (3, True), ran.errors)
+        self.assertEqual((ran.status, "has 3 frames, but no frame 4" in ran.errors), (3, True), ran.errors)
         for number, colour in ((1, "0F00"), (2, "00F0"), (3, "000F")):
             self.assertIn(colour, desk("picture", self.folder / "a.gif", "--frame", number).out)
 

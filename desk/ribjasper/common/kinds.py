@@ -86,7 +86,7 @@ PAGE = Kind("a page of the desk", lambda head, _: PAGE_MARK in head[:1000])
 # The beginning of the studio's journal of a song.
 JOURNAL = Kind("a journal of the studio", begins(b'{"ribjasper-studio": '))
 LYRICS = Kind("lyrics in LRC", is_recorded=True)
-LYRICS_MORE = Kind("what belongs to lyrics in LRC", begins(b"# Belongs to the LRC file"), is_recorded=True)
+LYRICS_MORE = Kind("a data file of lyrics in LRC", begins(b"# Belongs to the LRC file"), is_recorded=True)
 EXPORT = Kind("lyrics for other programs", is_recorded=True)
 ZIP = Kind("a ZIP file", begins(b"PK\3\4"), is_recorded=True)
 ALBUM = Kind("a list of songs", is_recorded=True)

@@ -298,7 +298,7 @@ def packs_of_blocks(stream: bytes, form: int, lead_in: int) -> tuple[bytes, Conv
     if status == NO_MEMORY:
         raise MemoryError
     if status not in (DONE, DAMAGED):
-        raise ValueError(f"ribjasper_convert answers {status}")
+        raise ValueError(f"ribjasper_convert returned the status {status}")
     return ctypes.string_at(packs, counts.bytes), counts
 
 
@@ -328,7 +328,7 @@ def sheet(text: bytes) -> Sheet:
     if status == NO_MEMORY:
         raise MemoryError
     if status not in (DONE, TORN):
-        raise ValueError(f"ribjasper_sheet answers {status}")
+        raise ValueError(f"ribjasper_sheet returned the status {status}")
     catalogue = bytes(result.catalogue) if result.has_catalogue else b""
     return Sheet(rows[: result.rows], catalogue, result.line, result.why)
 
@@ -343,7 +343,7 @@ def sheet_text(text: bytes, kind: int, place: int) -> bytes:
     if status == NO_MEMORY:
         raise MemoryError
     if status != DONE:
-        raise ValueError(f"ribjasper_sheet_text answers {status}")
+        raise ValueError(f"ribjasper_sheet_text returned the status {status}")
     return ctypes.string_at(out, length.value)
 
 

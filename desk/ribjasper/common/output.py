@@ -216,7 +216,7 @@ class Output:
         self.target = Target(self.target.name)
         self.check()
         if self.target.is_stream or self.target.identity() in [one.target.identity() for one in placed]:
-            raise Refusal(self.name, "became something else meanwhile")
+            raise Refusal(self.name, "was replaced while the command ran")
         assert self.waits is not None
         if self.kind.is_recorded:
             with read_files.paused():
@@ -429,9 +429,9 @@ def stem_of(name: Name) -> str:
     """The name from which the names of several files are made, from the arguments."""
     stem = os.fsdecode(name)
     if stem == DASH:
-        raise Refusal(DASH, f"means standard output, which can hold only one file; ./{DASH} is a name")
+        raise Refusal(DASH, f"means standard output, which can hold only one file; use ./{DASH} for files of this name")
     if os.path.basename(stem) in ("", os.curdir, os.pardir):
-        raise Refusal(stem or "''", "is not a name from which the names of several files can be made")
+        raise Refusal(stem or "''", "is not a file name; the names of several outputs begin with it")
     return stem
 
 

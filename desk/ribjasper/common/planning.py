@@ -101,15 +101,15 @@ class NoPlan(Exception):
             case Why.SCRIPT_REFUSED:
                 return f"line {self.line}: {ScriptWhy(number).word}"
             case Why.LENGTH_SHORT:
-                return f"its index lines need an audio of {spelled(number)} at least"
+                return f"its index lines need audio of at least {spelled(number)}"
             case Why.DISC_TOO_LONG:
-                return f"the disc would have {number} blocks, and 449,999 are the most"
+                return f"the disc would have {number} blocks; the maximum is 449,999"
             case Why.PAST_END:
                 return f"its last picture is held beyond the end of the disc, which is at {spelled(number)}"
             case Why.CD_TEXT_TOO_LONG:
-                return f"its texts need {number} packs, and 256 are the most"
+                return f"its texts need {number} packs; the maximum is 256"
             case Why.LEAD_IN_SHORT:
-                return f"the lead-in needs {number} blocks at least"
+                return f"the lead-in needs at least {number} blocks"
 
 
 def plan(sheet: bytes, script: bytes, audio: int, lead_in: int = LONGEST_LEAD_IN) -> Plan:
@@ -122,7 +122,7 @@ def plan(sheet: bytes, script: bytes, audio: int, lead_in: int = LONGEST_LEAD_IN
     if status == NOT_PLANNED:
         raise NoPlan(result.why, result.line, result.number)
     if status not in (PLANNED, LATE):
-        raise ValueError(f"ribjasper_plan answers {status}")
+        raise ValueError(f"ribjasper_plan returned the status {status}")
     listed = memoryview(rows).cast("B")[: ROW.size * result.pictures]
     return Plan([PlannedPicture._make(row) for row in ROW.iter_unpack(listed)], result.blocks)
 

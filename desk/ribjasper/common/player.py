@@ -90,7 +90,7 @@ class Player:
         else:
             status = call("ribjasper_player_seek")(self._handle, RAW, self._lead_in, *place)
         if status != DONE:
-            raise ValueError(f"ribjasper_player_seek answers {status}")
+            raise ValueError(f"ribjasper_player_seek returned the status {status}")
 
     def take(self, block: bytes) -> list[Pack]:
         """Feeds a block, and returns the packs that end with it."""

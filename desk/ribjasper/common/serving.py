@@ -108,12 +108,12 @@ class Handler(http.server.BaseHTTPRequestHandler):
         if not (length.isascii() and length.isdigit()) or int(length) > MOST_SENT:
             return as_json({"error": "a request must have a Content-Length of at most 4 MB"}, 413)
         if self.headers.get_content_type() != "application/json":
-            return as_json({"error": "JSON is wanted"}, 415)
+            return as_json({"error": "the request must be JSON"}, 415)
         try:
             found = json.loads(self.rfile.read(int(length)))
         except (ValueError, RecursionError):
             found = None
-        return found if isinstance(found, dict) else as_json({"error": "a JSON object is wanted"}, 400)
+        return found if isinstance(found, dict) else as_json({"error": "the request must be a JSON object"}, 400)
 
     def against(self) -> Answer | None:
         """Why a request is refused: it is for another host, comes from another page, or has no token."""
@@ -140,7 +140,7 @@ class Handler(http.server.BaseHTTPRequestHandler):
             answer = as_json({"error": "; ".join(failure.lines)}, 409)
         except Exception as error:
             answer = as_json({"error": "; ".join(failure_of(error, f"/{path}").lines)}, 500)
-        self.send(answer or as_json({"error": "there is nothing of this name"}, 404))
+        self.send(answer or as_json({"error": "no page or file has this name"}, 404))
 
     def send(self, answer: Answer) -> None:
         if isinstance(answer.content, Path):

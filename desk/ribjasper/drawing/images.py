@@ -45,7 +45,7 @@ def read_image(path: Path, how: ImageOptions = ImageOptions()) -> Any:
     with reading(path):
         image = pictures.open(path)
         if image.width * image.height > MOST_PIXELS:
-            raise Refusal(path, f"has {image.width} by {image.height} pixels, and {MOST_PIXELS:,} are the most")
+            raise Refusal(path, f"has {image.width} by {image.height} pixels; the maximum is {MOST_PIXELS:,}")
         choose_frame(image, path, how.frame)
         image = package("PIL.ImageOps", "python3-pil").exif_transpose(image)
         image = in_eight_bits(image).convert("RGBA")
@@ -59,7 +59,7 @@ def choose_frame(image: Any, path: Path, frame: int | None) -> None:
     if count > 1 and frame is None:
         raise Refusal(path, f"has {count} frames; --frame N chooses one, from 1 to {count}")
     if frame is not None and frame > count:
-        raise Refusal(path, f"has {count} frame{'s' * (count != 1)}, and no number {frame}")
+        raise Refusal(path, f"has {count} frame{'s' * (count != 1)}, but no frame {frame}")
     if frame is not None:
         image.seek(frame - 1)
 

@@ -173,7 +173,7 @@ class TomlTable:
     def take(self, key: str, kind: type | tuple[type, ...], what: str) -> Any:
         value = self.values.pop(key, None)
         if value is not None and (not isinstance(value, kind) or isinstance(value, bool) and kind is not bool):
-            raise Refusal(self.path, f"{key} is {value!r}, and has to be {what}")
+            raise Refusal(self.path, f"{key} is {value!r}, but must be {what}")
         return value
 
     def text(self, key: str) -> str | None:
@@ -184,13 +184,13 @@ class TomlTable:
         words = tuple(words)
         value = self.text(key)
         if value is not None and value not in words:
-            raise Refusal(self.path, f"{key} is {value!r}, and has to be one of {', '.join(words)}")
+            raise Refusal(self.path, f"{key} is {value!r}, but must be one of {', '.join(words)}")
         return value or default
 
     def number(self, key: str, least: float, most: float, kind: type = int) -> Any:
         value = self.take(key, (int, float) if kind is float else int, "a number")
         if value is not None and not least <= value <= most:
-            raise Refusal(self.path, f"{key} is {value}, and has to be from {least} to {most}")
+            raise Refusal(self.path, f"{key} is {value}, but must be from {least} to {most}")
         return value
 
     def colour(self, key: str, default: Colour | None) -> Colour | None:
@@ -199,7 +199,7 @@ class TomlTable:
             return default
         colour = read_colour(word)
         if colour is None:
-            raise Refusal(self.path, f"{key} is {word!r}, and has to be a colour like #08F or #0088FF")
+            raise Refusal(self.path, f"{key} is {word!r}, but must be a colour like #08F or #0088FF")
         return colour
 
     def file(self, key: str) -> Path | None:
@@ -210,13 +210,13 @@ class TomlTable:
     def tables(self, key: str) -> list["TomlTable"]:
         found = self.take(key, list, "tables in double brackets")
         if not all(isinstance(one, dict) for one in found or []):
-            raise Refusal(self.path, f"{key} has to be written [[{key}]]")
+            raise Refusal(self.path, f"{key} must be written [[{key}]]")
         return [TomlTable(self.path, one) for one in found or []]
 
     def end(self) -> None:
         """Refuses keys that were not read."""
         if self.values:
-            raise Refusal(self.path, f"knows nothing of {', '.join(map(repr, self.values))}")
+            raise Refusal(self.path, f"has unknown keys: {', '.join(map(repr, self.values))}")
 
 
 def read_table(path: Path) -> TomlTable:
@@ -243,7 +243,7 @@ def read_style(word: str) -> Style:
     table = read_table(path)
     voices = tuple(voice_of(one) for one in table.tables("voice"))
     if not 1 <= len(voices) <= VOICES:
-        raise Refusal(path, f"has {len(voices)} tables [[voice]], and has to have 1 to {VOICES}")
+        raise Refusal(path, f"has {len(voices)} tables [[voice]], but must have 1 to {VOICES}")
     ground = table.colour("ground", BLACK) or BLACK
     style = Style(
         voices=voices,
@@ -288,7 +288,7 @@ def font_names(table: TomlTable) -> list[str]:
     names = table.take("font", (str, list), "the name of a font, or a list of names") or []
     names = [names] if isinstance(names, str) else names
     if not all(isinstance(name, str) for name in names):
-        raise Refusal(table.path, "font has to be the name of a font, or a list of names")
+        raise Refusal(table.path, "font must be the name of a font, or a list of names")
     return names
 
 
