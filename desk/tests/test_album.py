@@ -222,7 +222,7 @@ class AlbumTest(SongsTest):
         refused("4.lrc: no such file", lambda text: text.replace("3.lrc", "4.lrc"))
         refused("gap is 'long'", lambda text: re.sub("gap = .*", 'gap = "long"', text))
         refused("isrc is 'X'", lambda text: text.replace('# isrc = "GBAAA2600001"', 'isrc = "x"', 1))
-        refused("knows nothing of 'colour'", lambda text: text.replace("lyrics", "colour = 1\nlyrics", 1))
+        refused("has unknown keys: 'colour'", lambda text: text.replace("lyrics", "colour = 1\nlyrics", 1))
         refused("track 1 needs lyrics and sound", lambda text: text.replace("sound", "# sound", 1))
         refused("has 0 tables [[track]]", lambda text: text[: text.index("[[track]]")])
         refused("is not TOML", lambda text: text + "x\n")

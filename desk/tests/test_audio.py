@@ -95,7 +95,7 @@ class AudioTest(FolderTest):
     def test_cut_files_are_reported(self) -> None:
         whole = wav(bytes(4 * 44_100))
         errors = self.refused(self.sound(whole[: len(whole) // 2]))
-        self.assertIn("is cut off: 0.50 of 1.00 seconds are there", errors)
+        self.assertIn("is cut off: it contains only 0.50 of 1.00 seconds", errors)
         self.assertIn("ffmpeg -i ", errors)
         self.assertIn("ends before its samples begin", self.refused(self.sound(whole[:30], "b.wav")))
 

@@ -146,11 +146,11 @@ class ImageTest(FolderTest):
         self.assertEqual(screen(image, 535 - PAUSE, "--form", "sector", lead_in=0), third)
 
     def test_texts_of_another_sheet_are_reported(self) -> None:
-        self.assertNotIn("its texts are not those", self.image().errors)
+        self.assertNotIn("its texts differ from those", self.image().errors)
         self.sheet = self.write("b.cue", SHEET.replace("All the Gaps", "Other Gaps"))
         errors = self.image().errors
-        self.assertIn("its texts are not those of", errors)
-        self.assertIn("2 differ, as `title 00 All the Gaps` of the stream", errors)
+        self.assertIn("its texts differ from those of", errors)
+        self.assertIn("2 differ, for example `title 00 All the Gaps` of the stream", errors)
 
     def test_a_pressed_file_has_no_script(self) -> None:
         plain = self.write("b.cue", 'FILE "a.wav" WAVE\nTRACK 01 AUDIO\nINDEX 01 00:00:00\n')
@@ -216,8 +216,8 @@ class ImageTest(FolderTest):
             )
         refused("is not a WAV file", audio=self.sheet)
         refused("no such file", audio=self.folder / "none.wav")
-        refused("author it with --length 00:23:00", audio=write_wav(self.folder / "b.wav", 588 * 75 * 23))
-        refused("they differ at 00:08:48", sheet=self.write("b.cue", SHEET.replace("00:05:49", "00:05:48")))
+        refused("author the stream with --length 00:23:00", audio=write_wav(self.folder / "b.wav", 588 * 75 * 23))
+        refused("its P or Q differs at 00:08:48", sheet=self.write("b.cue", SHEET.replace("00:05:49", "00:05:48")))
         refused("is neither a stream", stream=self.sheet)
         refused("is a .cdg file, not a raw stream", stream=self.write("a.cdg", bytes(24 * 50)))
         self.disc = self.folder / "a"

@@ -95,14 +95,14 @@ class StylesTest(FolderTest):
 
     def test_refusals(self) -> None:
         for line, why in (
-            ("rows = 7", "rows is 7, and has to be from 2 to 6"),
+            ("rows = 7", "rows is 7, but must be from 2 to 6"),
             ('rows = "4"', "rows is '4'"),
             ('ground = "blue"', "ground is 'blue'"),
-            ('colour = "#000"', "knows nothing of 'colour'"),
+            ('colour = "#000"', "has unknown keys: 'colour'"),
             ('align = "middle"', "align is 'middle'"),
             ('font = "No Such Font"', "there is no font No"),
             ("rows = ", "is not TOML"),
-            ("sweep = true", "knows nothing of 'sweep'"),
+            ("sweep = true", "has unknown keys: 'sweep'"),
         ):
             ran = desk("lyrics", SONG / "song.lrc", "-o", self.folder / "a.script", "--style", self.style(line))
             self.assertEqual((ran.status, why in ran.errors), (3, True), ran.errors)
@@ -551,7 +551,7 @@ class ReadableTest(ScriptTest):
         lines = "".join(f"[00:{10 + 4 * number:02}.00]Nearly thirty letters, line {number}\n" for number in range(6))
         ran, _, maker = self.made(self.write("a.lrc", lines), "--size", "24")
         self.assertLess(maker.font.size, 24)
-        self.assertIn("letters of 24 pixels break 6 of 6 lines, and so they have", ran.errors)
+        self.assertIn("letters of 24 pixels break 6 of 6 lines, so the letters are reduced to", ran.errors)
         self.assertTrue(all(len({id(placed) for placed in page.placed}) for page in maker.pages))
         self.assertEqual(
             sum(bool(placed.letters) for page in maker.pages for placed in page.placed if placed.is_sung), 6

@@ -195,7 +195,7 @@ class PairsTest(FolderTest):
             file.truncate(44 + samples)
         tracks = [['lyrics = "one.lrc"', 'sound = "long.wav"']]
         ran = self.album(*tracks, status=3)
-        self.assertIn("has 100:00:00, and the disc 79:57:00: it is 20:03:00 too long; --capacity", ran.errors)
+        self.assertIn("lasts 100:00:00, but the disc holds 79:57:00: it is 20:03:00 too long; --capacity", ran.errors)
         ran = self.album(*tracks, status=3, words=("-o", self.folder / "disc", "--capacity", "99:57"))
         self.assertIn("it is 00:03:00 too long", ran.errors)
 
@@ -212,14 +212,14 @@ class PairsTest(FolderTest):
             (['pair = "empty.zip"'], "empty.zip: has 1 .cdg files and 0 sounds"),
             (['pair = "alone.cdg"'], "alone.cdg: has no sound with its name next to it"),
             (['pair = "gone.cdg"'], "gone.cdg: no such file"),
-            (['pair = "usual.cdg"', "begin = 2"], "track 1: a pair cannot begin later"),
+            (['pair = "usual.cdg"', "begin = 2"], "track 1: a pair cannot have begin"),
             ([*lyrics, 'pair = "usual.cdg"'], "track 1 needs lyrics and sound, or a pair"),
-            ([*lyrics, "end = 20"], "one.wav: has 14.00 seconds, and those from 0 to 20 were asked for"),
+            ([*lyrics, "end = 20"], "one.wav: lasts 14.00 seconds, so it has no part from 0 to 20 seconds"),
             ([*lyrics, "loudness = 3"], "loudness is 3"),
             ([*lyrics, 'encoding = "x"'], "encoding is 'x'"),
             (
                 [*lyrics, 'isrc = "GBAAA2600001"', "[[track]]", *lyrics, 'isrc = "GB-AAA-26-00001"'],
-                "is that of another",
+                "another track also has",
             ),
         ):
             ran = self.album(lines, status=3)

@@ -56,8 +56,12 @@ class RefusalTest(FolderTest):
         for name, content in LYRICS.items():
             lyrics = self.write("song", content)
             errors = self.refused("plan", sheet, lyrics, "--length", "00:22:00")
-            self.assertIn(f"{lyrics}: is lyrics, and no picture script: `ribjasper-desk lyrics {lyrics}", errors, name)
-            self.assertIn("is lyrics, and no cue sheet", self.refused("plan", lyrics, script, "--length", "00:22:00"))
+            self.assertIn(
+                f"{lyrics}: contains lyrics, not a picture script: `ribjasper-desk lyrics {lyrics}", errors, name
+            )
+            self.assertIn(
+                "contains lyrics, not a cue sheet", self.refused("plan", lyrics, script, "--length", "00:22:00")
+            )
         # Other files are refused as before.
         other = self.write("b.script", b"show 00:01:00 00:01:00\nblah\n")
         self.assertIn(f"{other}: line 2: unknown-command", self.refused("plan", sheet, other, "--length", "00:22:00"))
@@ -67,7 +71,7 @@ class RefusalTest(FolderTest):
             lyrics = self.write("song", content)
             errors = self.refused("album", lyrics, "-o", self.folder / "disc")
             self.assertIn(
-                f"{lyrics}: is lyrics, and no list of songs: `ribjasper-desk album --new {lyrics}", errors, name
+                f"{lyrics}: contains lyrics, not a list of songs: `ribjasper-desk album --new {lyrics}", errors, name
             )
         self.assertIn("is not TOML", self.refused("album", self.write("a.toml", b"= 1\n"), "-o", self.folder / "disc"))
         self.assertIn("no such file", self.refused("album", self.folder / "none.toml", "-o", self.folder / "disc"))
@@ -86,7 +90,7 @@ class RefusalTest(FolderTest):
                 "forms: raw, pq, planar, sector, sector-pq, sector-planar, cooked, cooked-sector, cdg", ran.errors
             )
         errors = self.refused("convert", dump, "-o", self.folder / "b.xyz", "--form", "raw")
-        self.assertIn("say --as FORM: raw, pq, planar", errors)
+        self.assertIn("or --as with one of raw, pq, planar", errors)
 
 
 if __name__ == "__main__":

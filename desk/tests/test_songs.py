@@ -202,8 +202,8 @@ class LrcTest(SongTest):
         self.assertIn("no line has a time", self.refused("La\n"))
         errors = self.refused("[offset:x]\n[00:01.00]<00:02.00>a <00:01.00>b\n[00:05.00]<00:06.00>La <00:05.50>la\n")
         self.assertIn("line 1: the offset x", errors)
-        self.assertIn("line 2: the times of its words go back", errors)
-        self.assertIn("line 3: the times of its words go back", errors)
+        self.assertIn("line 2: a word begins before the word in front of it", errors)
+        self.assertIn("line 3: a word begins before the word in front of it", errors)
 
 
 class LettersTest(SongTest):

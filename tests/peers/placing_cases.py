@@ -416,7 +416,7 @@ def check_numbers(case: Case, reference: Expected, offset: int, count: Any) -> N
     output = case.output
     cells = [[int(cell) for cell in row[1:]] for row in output.rows[1:]]
     found = re.search(r"(\d+) words have no codeword", output.lines)
-    agreed = re.search(r"(\d+) words are those on which", output.lines)
+    agreed = re.search(r"for (\d+) words, the result is a codeword on which", output.lines)
     none = int(found[1]) if found else 0
     words = len(case.packs)
     is_true = (

@@ -149,18 +149,18 @@ def read_album(path: Path) -> Album:
     gap = table.number("gap", 0, LONGEST_GAP, float)
     title, singer, catalogue = (table.text(key) or "" for key in ("title", "singer", "catalogue"))
     if catalogue and not CATALOGUE.fullmatch(catalogue):
-        raise Refusal(path, f"catalogue is {catalogue!r}, and has to be 13 digits")
+        raise Refusal(path, f"catalogue is {catalogue!r}, but must be 13 digits")
     if catalogue and check_digit(catalogue[:12]) != catalogue[12]:
         right = catalogue[:12] + check_digit(catalogue[:12])
         raise Refusal(path, f"catalogue is {catalogue!r}, whose check digit is wrong: {right} has the right one")
     tracks = [read_track(one, number, common, loudness) for number, one in enumerate(table.tables("track"), 1)]
     table.end()
     if not 1 <= len(tracks) <= MOST_TRACKS:
-        raise Refusal(path, f"has {len(tracks)} tables [[track]], and a disc has 1 to {MOST_TRACKS} tracks")
+        raise Refusal(path, f"has {len(tracks)} tables [[track]], but a disc has 1 to {MOST_TRACKS} tracks")
     codes = [track.code for track in tracks if track.code]
     for number, track in enumerate(tracks, 1):
         if track.code and codes.count(track.code) > 1:
-            raise Refusal(path, f"track {number}: isrc {track.code} is that of another track too")
+            raise Refusal(path, f"track {number}: another track also has isrc {track.code}")
     blocks = round((2.0 if gap is None else gap) * BLOCKS_A_SECOND)
     return Album(path, title, singer, catalogue, blocks, tracks)
 
@@ -184,7 +184,9 @@ def looks(table: TomlTable) -> dict[str, Any]:
         "between": between_of(table),
     }
     if found["encoding"] and not known(found["encoding"]):
-        raise Refusal(table.path, f"encoding is {found['encoding']!r}, and has to be one like utf-8 or windows-1251")
+        raise Refusal(
+            table.path, f"encoding is {found['encoding']!r}, but must be an encoding like utf-8 or windows-1251"
+        )
     return {key: value for key, value in found.items() if value not in (None, "", ())}
 
 
@@ -193,7 +195,7 @@ def between_of(table: TomlTable) -> tuple[str, ...]:
     words = table.take("between", (str, list), "a picture or a colour, or a list of them") or []
     words = [words] if isinstance(words, str) else words
     if not all(isinstance(word, str) for word in words):
-        raise Refusal(table.path, "between has to be a picture or a colour, or a list of them")
+        raise Refusal(table.path, "between must be a picture or a colour, or a list of them")
     return tuple(word if word.startswith("#") else os.path.abspath(table.path.parent / word) for word in words)
 
 
@@ -203,7 +205,7 @@ def read_track(table: TomlTable, number: int, common: Wishes, loudness: float | 
         raise Refusal(table.path, f"track {number} needs lyrics and sound, or a pair")
     code = (table.text("isrc") or "").replace("-", "").upper()
     if code and not CODE.fullmatch(code):
-        raise Refusal(table.path, f"track {number}: isrc is {code!r}, and has to be like GBAAA2600001")
+        raise Refusal(table.path, f"track {number}: isrc is {code!r}, but must be like GBAAA2600001")
     style = table.text("style")
     wishes = replace(common, title=table.file("picture"), **looks(table))
     if style:
@@ -217,7 +219,7 @@ def read_track(table: TomlTable, number: int, common: Wishes, loudness: float | 
     treatment = Treatment(begin, end, loudness if own is None else own, fade_in, fade_out, intro)
     if pair and begin:
         raise Refusal(
-            table.path, f"track {number}: a pair cannot begin later, since its pictures follow from the first"
+            table.path, f"track {number}: a pair cannot have begin, since each picture depends on earlier ones"
         )
     title, singer = table.text("title") or "", table.text("singer") or ""
     table.end()
@@ -238,7 +240,7 @@ def made_ready(track: ListedTrack) -> Ready:
     some, later = as_track(track.lyrics, packs + bytes(-len(packs) % PACK))
     if later:
         tell(
-            f"{track.lyrics}: its first packs leave no room for presets, and so its pictures and its sound are later by "
+            f"{track.lyrics}: its first packs leave no room for presets, so its pictures and sound are delayed by "
             f"{1000 * later / BLOCKS_A_SECOND:.0f} milliseconds"
         )
         treatment = treatment._replace(intro=treatment.intro + later / BLOCKS_A_SECOND)
@@ -260,7 +262,7 @@ def check_capacity(album: Album, ready: list[Ready], capacity: int | None) -> No
         asks = "" if capacity else "; --capacity MM:SS allows more, if the disc has it"
         raise Refusal(
             album.path,
-            f"has {spelled(length)}, and the disc {spelled(most)}: it is {spelled(length - most)} too long{asks}",
+            f"lasts {spelled(length)}, but the disc holds {spelled(most)}: it is {spelled(length - most)} too long{asks}",
         )
 
 
@@ -310,10 +312,10 @@ def write_disc(album: Album, sung: list[Sung], outputs: Outputs, names: list[str
     try:
         lead_in = least_lead_in(sheet, length)
     except NoPlan as none:
-        raise Refusal(album.path, f"makes no disc: {none.cause()}") from None
+        raise Refusal(album.path, f"cannot become a disc: {none.cause()}") from None
     stream, status, message = press(sheet, joined_packs(album, sung), lead_in, length)
     if status:
-        raise Refusal(album.path, f"makes no disc: {message}")
+        raise Refusal(album.path, f"cannot become a disc: {message}")
     disc = read_disc(album.path, sheet, length)
     outputs.write(sheet_name, sheet)
     outputs.write(raw, stream)
@@ -375,7 +377,7 @@ def add_texts_of(sheet: CueWriter, album: Album, place: str, title: str, singer:
             spelling = plain.encode("latin-1")
         except UnicodeEncodeError as wrong:
             tell(
-                f"{album.path}: {place}: Latin-1 has no {plain[wrong.start]}, and so the texts of the disc are without "
+                f"{album.path}: {place}: Latin-1 has no {plain[wrong.start]}, so the texts of the disc omit the "
                 f"{kind} {plain}"
             )
             continue

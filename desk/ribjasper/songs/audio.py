@@ -107,7 +107,7 @@ def whole_size(start: int, size: int, end: int, a_second: int, path: Path) -> in
         return there
     if size > there:
         missing = f"{there / a_second:.2f} of {size / a_second:.2f} seconds" if a_second else f"{there} of {size} bytes"
-        raise Refusal(path, f"is cut off: {missing} are there; {remedy(path)} makes a complete file from the rest")
+        raise Refusal(path, f"is cut off: it contains only {missing}; {remedy(path)} makes a complete file from them")
     return size
 
 
@@ -210,7 +210,7 @@ def span_of(path: Path, wave: Wave, treatment: Treatment) -> tuple[int, int]:
     first = round(RATE * treatment.begin)
     if not first < last <= count:
         asked = f"{treatment.begin:g} to {last / RATE:g}"
-        raise Refusal(path, f"has {count / RATE:.2f} seconds, and those from {asked} were asked for")
+        raise Refusal(path, f"lasts {count / RATE:.2f} seconds, so it has no part from {asked} seconds")
     return first, last
 
 
@@ -250,7 +250,7 @@ def at_loudness(path: Path, samples: bytes, loudness: float) -> bytes:
         str(measured.get(key, "")) for key in ("input_i", "input_tp", "input_lra", "input_thresh", "target_offset")
     ]
     if not all(is_number(value) for value in values):
-        raise Refusal(path, "ffmpeg cannot measure its loudness; is it silent?")
+        raise Refusal(path, "ffmpeg cannot measure its loudness; the sound may be silent")
     names = ("measured_I", "measured_TP", "measured_LRA", "measured_thresh", "offset")
     given = ":".join(f"{name}={value}" for name, value in zip(names, values))
     run_ffmpeg(path, ["-i", os.fspath(source), "-af", f"{target}:{given}:linear=true", *DISC_FORM, os.fspath(out)])

@@ -338,7 +338,7 @@ def apply_heads(song: Song, table: dict[str, Any], path: Path) -> None:
         if name not in table:
             continue
         if table[name]["lrc"] != found:
-            song.notes.append(f"{path}: the {name} was changed in the lyrics, and is as it is there")
+            song.notes.append(f"{path}: the {name} was changed in the lyrics, so its entry here is ignored")
             continue
         value = table[name]["value"]
         if name == "inserts":
@@ -379,7 +379,7 @@ def apply_lines(song: Song, rows: list[str], entries: list[dict[str, Any]], path
         row, lrc = int(entry["row"]), word(entry["lrc"])
         places = [at for at, text in enumerate(rows, 1) if text == lrc and at not in taken]
         if not places:
-            song.notes.append(f"{path}: a line was changed in the lyrics, and is as it is there: {lrc}")
+            song.notes.append(f"{path}: a line was changed in the lyrics, so its entry here is ignored: {lrc}")
             continue
         at = min(places, key=lambda place: abs(place - row))
         taken.add(at)
@@ -403,7 +403,7 @@ def line_of(entry: dict[str, Any], read: LineValues | None) -> Line:
     lists = [number(one) for one in value("starts")], [number(one) for one in value("ends")]
     voices = [voice_number(one) for one in value("voices")]
     if not texts or {len(lists[0]), len(lists[1]), len(voices)} != {len(texts)}:
-        raise ValueError("a line has not as many times as words")
+        raise ValueError("a line has more or fewer times than words")
     until = value("until")
     syllables = [Syllable(*parts) for parts in zip(texts, *lists, voices)]
     # Files from before page breaks existed have no such value.

@@ -48,10 +48,10 @@ def checked(line: ScoreLine) -> ScoreLine:
         raise BadEdit("a line needs a text")
     starts = [word.start for word in line.words if word.start is not None]
     if len(starts) < len(line.words) and any(word.is_timed for word in line.words[len(starts) :]):
-        raise BadEdit("words are timed in their order")
+        raise BadEdit("give times to the words in their order")
     ends = [word.end or 0.0 for word in line.words[: len(starts)]]
     if starts != sorted(starts) or any(end < start for start, end in zip(starts, ends)):
-        raise BadEdit("times of words go back")
+        raise BadEdit("the times of the words must be in order")
     if starts and not (0 <= starts[0] and max(ends) <= LONGEST_SONG):
         raise BadEdit(f"times are from 0 to {LONGEST_SONG} seconds")
     return line
@@ -98,7 +98,7 @@ def time_of(edit: Edit, name: str = "at") -> float:
 
 def text_of(value: object) -> str:
     if not isinstance(value, str) or len(value) > MOST_LETTERS:
-        raise BadEdit("a text is wanted")
+        raise BadEdit("a text is needed")
     return "".join(" " if letter.splitlines() == [""] else letter for letter in value)
 
 
@@ -237,7 +237,7 @@ def end(score: Score, edit: Edit) -> Score:
     at = place_of(edit, len(line.words))
     word = line.words[at]
     if word.start is None:
-        raise BadEdit("a word ends after it begins, and it has no time yet")
+        raise BadEdit("set the beginning of the word before its end")
     following = line.words[at + 1].start if at + 1 < len(line.words) else None
     time = max(word.start, min(time_of(edit), math.inf if following is None else following))
     words = (*line.words[:at], replace(word, end=time), *line.words[at + 1 :])
@@ -414,7 +414,7 @@ def cut(score: Score, edit: Edit) -> Score:
     at = place_of(edit, len(line.words))
     front, back = line.words[:at], line.words[at:]
     if not front or not "".join(word.text for word in front).strip() or not back[0].text.strip():
-        raise BadEdit("a line is cut between two words")
+        raise BadEdit("a line can only be broken between two words")
     whole = score.lines[place]
     if whole.is_whole:
         # The first half keeps the time of the line.
@@ -506,7 +506,7 @@ def several(score: Score, edit: Edit) -> Score:
     """Makes edits that are undone together."""
     for one in edit["edits"]:
         if one["do"] == "several":
-            raise BadEdit("edits that are undone together do not hold others")
+            raise BadEdit("edits that are undone together cannot contain such a group")
         score = edited(score, one)
     return score
 

@@ -42,7 +42,7 @@ class Spelling:
         done = "".join(self.instead.get(letter, letter) for letter in plain)
         if done != plain:
             self.song.notes.append(
-                f"{self.song.path}: {place} has letters that {self.kind} cannot hold; others replace them"
+                f"{self.song.path}: {place} has letters that {self.kind} cannot express; other letters replace them"
             )
         return done
 
@@ -118,7 +118,7 @@ def as_ultrastar(song: Song) -> str:
     head += [f"#ARTIST:{letters.spelled(song.performer, 'the performer').strip()}", f"#BPM:{TEMPO}", "#GAP:0"]
     if any(line.voice in (THIRD, FOURTH) for line in lines):
         song.notes.append(
-            f"{song.path}: UltraStar has two voices; the third and the fourth have those of the first two"
+            f"{song.path}: UltraStar has two voices; the third and fourth singers share the voices of the first two"
         )
     if all(line.voice == FIRST for line in lines):
         return "\n".join([*head, *notes_of(lines, letters), "E", ""])

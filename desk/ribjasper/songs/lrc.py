@@ -91,7 +91,7 @@ def tell_order(song: Song, stamped: list[Stamped]) -> None:
         if one.start < before.start:
             song.note(
                 one.number,
-                f"is at {one.written}, before line {before.number} at {before.written}: it is sung in "
+                f"is at {one.written}, before line {before.number} at {before.written}; lines are sung in "
                 "the order of the times",
             )
         elif one.start == before.start and one.voice == before.voice:

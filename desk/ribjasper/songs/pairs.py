@@ -61,7 +61,7 @@ def pair_in(path: Path, together: zipfile.ZipFile) -> tuple[bytes, Path]:
     graphics = [one for one in inside if one.filename.lower().endswith(CDG)]
     sounds = [one for one in inside if one.filename.lower().endswith(audio.ENDINGS)]
     if len(graphics) != 1 or len(sounds) != 1:
-        raise Refusal(path, f"has {len(graphics)} .cdg files and {len(sounds)} sounds, and a pair is one of each")
+        raise Refusal(path, f"has {len(graphics)} .cdg files and {len(sounds)} sounds, but a pair has one of each")
     if graphics[0].file_size > MOST_READ:
         raise Refusal(path, f"its .cdg file has more than {MOST_READ:,} bytes, which is too long")
     out = audio.new_file(Path(sounds[0].filename).suffix.lower())

@@ -42,14 +42,14 @@ def check_sheet_and_script(sheet: Path, sheet_text: bytes, script: Path, script_
             sheet, f"is a picture script, and {shown(os.fspath(script))} is a cue sheet: give the sheet first"
         )
     if is_lyrics(sheet_text):
-        raise Refusal(sheet, "is lyrics, and no cue sheet")
+        raise Refusal(sheet, "contains lyrics, not a cue sheet")
     if is_lyrics(script_text):
         makes = f"`ribjasper-desk lyrics {shown(os.fspath(script))} -o SCRIPT` makes one"
-        raise Refusal(script, f"is lyrics, and no picture script: {makes}")
+        raise Refusal(script, f"contains lyrics, not a picture script: {makes}")
 
 
 def check_list(path: Path, content: bytes) -> None:
     """Refuses lyrics in place of a list of songs; for a file that is no list."""
     if is_lyrics(content):
         makes = f"`ribjasper-desk album --new {shown(os.fspath(path))} -o LIST.toml` begins one"
-        raise Refusal(path, f"is lyrics, and no list of songs: {makes}")
+        raise Refusal(path, f"contains lyrics, not a list of songs: {makes}")

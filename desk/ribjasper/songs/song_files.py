@@ -138,18 +138,18 @@ def put_in_order(song: Song) -> None:
     """Sorts the lines by their times; lines whose words go back in time, or exceed the length of a disc, are errors."""
     song.lines.sort(key=lambda line: line.start)
     if len(song.lines) > MOST_LINES:
-        song.faults = [f"there are {len(song.lines):,} lines that are sung, and {MOST_LINES:,} are the most"]
+        song.faults = [f"there are {len(song.lines):,} sung lines; the maximum is {MOST_LINES:,}"]
         return
     for line in song.lines:
         if len(line.text) > MOST_LETTERS:
-            song.fault(line.number, f"it has {len(line.text):,} letters, and {MOST_LETTERS:,} are the most")
+            song.fault(line.number, f"it has {len(line.text):,} letters; the maximum is {MOST_LETTERS:,}")
         starts = [syllable.start for syllable in line.syllables]
         if starts != sorted(starts):
-            song.fault(line.number, f"the times of its words go back: {line.text}")
+            song.fault(line.number, f"a word begins before the word in front of it: {line.text}")
         elif line.end < line.start:
             song.fault(line.number, f"it ends before it begins: {line.text}")
         elif line.end > LONGEST_SONG:
-            song.fault(line.number, f"is at {line.written}, and a disc ends after {LONGEST_SONG // 60} minutes")
+            song.fault(line.number, f"is at {line.written}, but a disc ends after {LONGEST_SONG // 60} minutes")
         for syllable in line.syllables:
             syllable.end = max(syllable.start, syllable.end)
 

@@ -341,8 +341,8 @@ def unbroken(song: Song, lines: list[Line], font: Font, notes: list[str], is_ask
     better = [*smaller, font][first_of(smaller, lambda one: 2 * broken(lines, one) <= count)]
     if is_asked and better is not font:
         notes.append(
-            f"{song.path}: letters of {font.size} pixels break {broken(lines, font)} of {count} lines, and so "
-            f"they have {better.size}"
+            f"{song.path}: letters of {font.size} pixels break {broken(lines, font)} of {count} lines, so the letters "
+            f"are reduced to {better.size} pixels"
         )
     return better
 
@@ -520,7 +520,8 @@ class Maker:
                 return True
         room = max(0, verse.until - verse.begin - TITLE_STAYS) / BLOCKS
         self.note_of(
-            verse, f"{verse.what} is omitted: it needs {need / BLOCKS:.1f} seconds, and there is room for {room:.1f}"
+            verse,
+            f"{verse.what} is omitted: it needs {need / BLOCKS:.1f} seconds, but there is room only for {room:.1f}",
         )
         return False
 
@@ -566,8 +567,8 @@ class Maker:
                 need = blocks_for([title])
             room = max(0, self.room_for([]) - TITLE_STAYS) / BLOCKS
             self.notes.append(
-                f"{image}: the title is omitted: it needs {need / BLOCKS:.1f} seconds, and there is room for {room:.1f}, so "
-                f"that the first page is shown before it is sung{self.more_room(shows)}"
+                f"{image}: the title is omitted: it needs {need / BLOCKS:.1f} seconds, but there is room only for {room:.1f}: "
+                f"the first page must be shown before it is sung{self.more_room(shows)}"
             )
         for lines in (texts + legend, legend, texts):
             shows = [self.page_of(lines)] if lines else []
@@ -647,7 +648,7 @@ class Maker:
             for number in found.late():
                 steps = pictures[number - 1].steps
                 steps[-1].need += found.rows[number].need - sum(step.need for step in steps)
-        raise Refusal(self.song.path, f"{len(found.late())} pictures stay late")
+        raise Refusal(self.song.path, f"{len(found.late())} pictures are still late")
 
     def made(self) -> Made:
         """The script. If pages change as a whole, a row of a page that follows quickly may be late: the rows of that
@@ -780,12 +781,12 @@ def end_with_sound(song: Song, end: int) -> None:
         if line.start >= seconds:
             what = f"at {line.written} begins after the sound, which ends at {song_time(seconds)}"
         elif line.syllables[-1].start >= seconds:
-            what = f"at {line.written} is sung until {song_time(line.end)}, and the sound ends at {song_time(seconds)}"
+            what = f"at {line.written} is sung until {song_time(line.end)}, but the sound ends at {song_time(seconds)}"
         else:
             continue
         causes.append(f"line {line.number} {what}: {shortened(line.text)}")
     if causes:
-        raise Refusal(song.path, *first_of_many(causes, MOST_MESSAGES, "there are {} more lines behind the end"))
+        raise Refusal(song.path, *first_of_many(causes, MOST_MESSAGES, "there are {} more lines after the end"))
     last = seconds - STAYS / BLOCKS
     for line in song.lines:
         line.until = None if line.until is None else min(line.until, max(line.start, last))

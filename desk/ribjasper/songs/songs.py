@@ -129,9 +129,7 @@ class Song:
                 return BOTH
             self.singers.append(name)
             if len(self.singers) == SINGERS + 1:
-                self.note(
-                    number, f"has a fifth singer, {name}: there are colours for four, and {name} has the fourth's"
-                )
+                self.note(number, f"has a fifth singer, {name}; there are only four colours, so {name} has the fourth")
         return min(self.singers.index(name), SINGERS - 1)
 
     def shift(self, seconds: float) -> None:

@@ -225,7 +225,7 @@ class Studio:
             return None
         raise Refusal(
             self.journal_path,
-            f"has edits of another version of {self.lyrics.name}, which was changed since; --force forgets them",
+            f"has edits of another version of {self.lyrics.name}; --force discards these edits",
         )
 
     # Edits
@@ -289,7 +289,7 @@ class Studio:
         untimed = self.score.untimed
         if untimed:
             first = ", ".join(map(str, untimed[:5])) + ", .." * (len(untimed) > 5)
-            raise Refusal(self.lyrics, f"lines without all times: {first}; the journal keeps what is done")
+            raise Refusal(self.lyrics, f"lines without all times: {first}; the journal keeps all edits")
 
     def save(self) -> list[str]:
         """Saves the song as LRC, with a file next to it if needed. Returns the names of the saved files."""
@@ -333,7 +333,7 @@ class Studio:
         with self.guard:
             self.check_timed()
             if ending not in EXPORTS:
-                raise Refusal(self.lyrics, f"there is no export to {ending}")
+                raise Refusal(self.lyrics, f"the studio cannot export to {ending}")
             song = song_of(self.score, self.opened.document.song)
             out = export_name(self.lyrics, ending)
             content = EXPORTS[ending](song)
@@ -384,12 +384,12 @@ class Studio:
             before = read_file(path).decode() if path.exists() else ""
             begin = before or NEW.format(name=ALBUM, title="", singer="")
             if entry.splitlines()[2] in before.splitlines():
-                job.message = f"{ALBUM} has this song already"
+                job.message = f"{ALBUM} already contains this song"
                 return
             # The entries of the list remain, so it may have been changed by hand.
             with Outputs([self.lyrics, self.sound], [(path, kinds.ALBUM)], True) as outputs:
                 outputs.write(path, (begin + entry).encode())
-        job.message = f"{ALBUM} has the song now; `ribjasper-desk album {ALBUM} -o DISC` makes the disc"
+        job.message = f"{ALBUM} now contains the song; `ribjasper-desk album {ALBUM} -o DISC` makes the disc"
 
     def look_rows(self) -> str:
         """The look of the song as rows of its entry."""

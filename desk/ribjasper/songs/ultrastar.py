@@ -110,7 +110,7 @@ def set_clock(song: Song, clock: Beats, name: str, value: str, number: int) -> N
     elif name == "GAP" and abs(amount) <= LONGEST_GAP:
         clock.gap = amount
     else:
-        song.fault(number, f"#{name} is {value}, and no number that it may be")
+        song.fault(number, f"#{name} is {value}, but must be a number in its range")
 
 
 def add_syllable(line: Line, text: str, start: float, end: float, voice: int) -> None:

@@ -86,7 +86,7 @@ def run(arguments: argparse.Namespace) -> int:
     if arguments.new:
         return begin_list(arguments)
     if len(arguments.files) > 1 or not (arguments.output or arguments.check):
-        arguments.parser.error("one list and -o DISC are needed, or --check, or --new")
+        arguments.parser.error("give one list with -o DISC or --check, or the lyrics of all tracks with --new")
     album = read_album(arguments.files[0])
     if arguments.encoding:
         for track in album.tracks:

@@ -128,7 +128,7 @@ def show_all(stream: Stream, arguments: argparse.Namespace, count: int, out: IO[
 
 def run(arguments: argparse.Namespace) -> int:
     if not (arguments.output or arguments.stills):
-        arguments.parser.error("one of -o and --stills is needed")
+        arguments.parser.error("-o or --stills is needed")
     if arguments.every is not None and arguments.every <= 0:
         arguments.parser.error("--every needs a number above 0")
     reads = [arguments.stream, arguments.audio]
@@ -151,7 +151,7 @@ def run(arguments: argparse.Namespace) -> int:
         if arguments.stills:
             if len(stills.kept) > MOST_STILLS:
                 raise Refusal(
-                    arguments.stills, f"would have {len(stills.kept)} pictures; --every SECONDS asks for fewer"
+                    arguments.stills, f"would have {len(stills.kept)} pictures; use --every SECONDS for fewer"
                 )
             outputs.write_png(arguments.stills, stills_page(stills.kept))
     tell(f"{seconds:.1f} seconds, {count} frames, {len(stills.kept)} stills")

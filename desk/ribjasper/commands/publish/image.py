@@ -66,8 +66,8 @@ def checked_program(arguments: argparse.Namespace, disc: SheetDisc) -> bytes:
         length = audio.length(arguments.audio)
         raise Refusal(
             arguments.stream,
-            f"has {len(program) // BLOCK} blocks, and the sheet with this audio "
-            f"{disc.blocks}: author it with --length {spelled(length)}",
+            f"has {len(program) // BLOCK} blocks, but the sheet with this audio needs "
+            f"{disc.blocks}: author the stream with --length {spelled(length)}",
         )
     expected = disc.stream[BLOCK * disc.lead_in :]
     if program.translate(P_AND_Q) != expected.translate(P_AND_Q):
@@ -77,7 +77,7 @@ def checked_program(arguments: argparse.Namespace, disc: SheetDisc) -> bytes:
             if program[BLOCK * number : BLOCK * (number + 1)].translate(P_AND_Q)
             != disc.block(number).translate(P_AND_Q)
         )
-        raise Refusal(arguments.stream, f"is not of this sheet: they differ at {spelled(number)}")
+        raise Refusal(arguments.stream, f"was not made from this sheet: its P or Q differs at {spelled(number)}")
     return program
 
 
@@ -115,8 +115,8 @@ def tell_texts(arguments: argparse.Namespace, disc: SheetDisc) -> None:
     if differ:
         of, line = differ[0]
         tell(
-            f"{arguments.stream}: its texts are not those of {arguments.sheet}, which {arguments.output}.toc and .cue "
-            f"have: {len(differ)} differ, as `{line}` of the {of}"
+            f"{arguments.stream}: its texts differ from those of {arguments.sheet}, which {arguments.output}.toc and .cue "
+            f"contain: {len(differ)} differ, for example `{line}` of the {of}"
         )
 
 
@@ -128,10 +128,10 @@ def held(arguments: argparse.Namespace, disc: SheetDisc) -> bytes:
     stream, status, message = author(sheet, HOLD_THROUGH_PAUSE + script, disc.lead_in, length)
     if status == LATE:
         raise LatePicture(
-            f"{arguments.hold_through_pause}: with a picture held through the pause: {message}, counted with it"
+            f"{arguments.hold_through_pause}: after a black picture is added in front: {message}, which counts the black picture"
         )
     if status:
-        raise Refusal(arguments.hold_through_pause, f"with one line more in front: {message}")
+        raise Refusal(arguments.hold_through_pause, f"after one line is added in front: {message}")
     return stream[BLOCK * disc.lead_in :]
 
 

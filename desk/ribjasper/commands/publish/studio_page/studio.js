@@ -163,7 +163,7 @@ function renderTarget() {
   const line = app.state.lines[Math.min(app.line, app.state.lines.length - 1)];
   const texts = line.whole ? splitSyllables(line.words[0].text) : line.words.map((one) => one.text);
   const text = unit() === "line" ? texts.join("") : texts[Math.min(app.word, texts.length - 1)];
-  $("target").textContent = isOn ? (isAll || app.isDone ? "Done: all is timed" : `Tap: ${text.trim()}`) : "Tap (off)";
+  $("target").textContent = isOn ? (isAll || app.isDone ? "Done: everything has its time" : `Tap: ${text.trim()}`) : "Tap (off)";
   $("tap").classList.toggle("on", isOn && !sound.paused);
   $("tap").disabled = !isOn;
 }
