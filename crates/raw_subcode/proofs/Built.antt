@@ -1,9 +1,10 @@
 -- The channels of a block that is built place by place.
-use Rattle.std.proofs.Common.{◌≡◌, ℕ, suc, ◌-◌, ◌*◌, ◌/◌, ◌%◌, ◌<◌, Bool, false, List, [], ◌∷◌, length, get_or, map, replicate, sym, ap₂, ◌∙◌, arith, inl, inr}
+use Rattle.std.proofs.Common.{◌≡◌, ℕ, suc, ◌-◌, ◌*◌, ◌/◌, ◌%◌, ◌<◌, Bool, false, List, [], ◌∷◌, length, get_or, map, replicate, sym, ap, ap₂, ◌∙◌, subst, ◌+◌, arith, rules, inl, inr}
 use Rattle.std.proofs.lemmas.Bool.{cases_lt}
 use Rattle.std.proofs.lemmas.Grind.{same_number_lists}
-use Rattle.std.proofs.lemmas.List.{same_lists, length-map, length-replicate, get_or-map, get_or-replicate, get_or-append_right, get_or_append_left, get_or_default}
+use Rattle.std.proofs.lemmas.List.{same_lists, length-map, length-replicate, get_or-map, get_or-replicate, get_or-append_right, get_or_append_left, get_or_default, places}
 use Rattle.std.specs.Prelude.{slice_index}
+use borrow.Rule.Slice.PartMut.{put_mid}
 use Rattle.bit_lists.specs.Bits.{bits_of, bits_of_bytes, has_bit}
 use Rattle.bit_lists.proofs.BitsLemmas.{length-bits_of, length-bits_of_bytes}
 use Rattle.raw_subcode.specs.Channels.{channel_bit, p_bits, q_bits, symbols_of}
@@ -60,3 +61,30 @@ symbols_are block symbols size symbols_size each =
     same_number_lists (symbols_of block) symbols (length-map block (λ b. b % 64) ∙ omega arith) (λ n lt.
     let below : n < 96 = omega (arith, length-map block (λ b. b % 64)) in
     get_or-map (λ b. b % 64) block n 0 0 (omega arith) ∙ each n below)
+
+-- eight bytes that are put into a block leave its size
+pub length-eight_put : (bytes put : List ℕ) (k count : ℕ) → k < 12 → length bytes ≡ 96 → length put ≡ 8
+    → count ≡ 8 → length (put_mid (8 * k) count bytes put) ≡ 96
+length-eight_put bytes put k count k_lt size put_size is = search (rules, places)
+
+-- what holds of the bytes of the first k groups of eight, and of the eight bytes that are put after them, holds of
+-- the bytes of the first k + 1 groups
+pub eight_put : (Holds : ℕ → ℕ → Type 0) (bytes put eight : List ℕ) (k count : ℕ) → k < 12 → length bytes ≡ 96
+    → length eight ≡ 8 → count ≡ 8 → put ≡ eight
+    → ((n : ℕ) → n < 96 → n / 8 < k → Holds n (slice_index bytes n))
+    → ((j : ℕ) → j < 8 → Holds (8 * k + j) (slice_index eight j))
+    → (n : ℕ) → n < 96 → n / 8 < k + 1 → Holds n (slice_index (put_mid (8 * k) count bytes put) n)
+eight_put Holds bytes put eight k count k_lt size eight_size is same before here n lt under =
+    let put_size : length put ≡ 8 = ap length same ∙ eight_size in
+    elim (cases_lt n (8 * k)) [
+      | inl early ↦
+          let at : slice_index (put_mid (8 * k) count bytes put) n ≡ slice_index bytes n =
+          search (rules, places) in
+          subst (Holds n) (sym at) (before n lt (omega arith))
+      | inr late ↦
+          let place : 8 * k + (n - 8 * k) ≡ n = omega arith in
+          let at : slice_index (put_mid (8 * k) count bytes put) n ≡ slice_index put (n - 8 * k) =
+          search (rules, places) in
+          subst (Holds n) (sym (at ∙ ap (λ xs. slice_index xs (n - 8 * k)) same))
+          (subst (λ m. Holds m (slice_index eight (n - 8 * k))) place (here (n - 8 * k) (omega arith)))
+    ]
