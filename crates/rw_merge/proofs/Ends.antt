@@ -1,12 +1,13 @@
 -- How often both inputs reported their ends and filled a read, since the beginning.
 use Rattle.std.proofs.Common.{◌≡◌, ◌++◌, ◌+◌, ◌*◌, ◌/◌, ◌<◌, ◌≤◌, ◌∙◌, ℕ, List, length, subst, inl, inr, arith, length-append}
+use Rattle.std.specs.Prelude.{Result, Ok, Err}
 use Rattle.cdg_io.specs.Causes.{Count}
 use Rattle.cdg_io.specs.Change.{from_to}
 use Rattle.cdg_io.specs.Pump.{RoseBy}
 use Rattle.cdg_io.proofs.PumpSteps.{some_more}
 use Rattle.cdg_io.proofs.Stops.{rose_once_since}
 use Rattle.raw_subcode.specs.Sizes.{most_units}
-use Rattle.rw_merge.specs.Merging.{EndsAtStop, EndReportedUnlessAhead, full_reads}
+use Rattle.rw_merge.specs.Merging.{EndsAtStop, EndsBoth, EndReportedUnlessAhead, full_reads}
 use Rattle.rw_merge.specs.declared.merge.MergeStop.{MergeStop}
 use Rattle.rw_merge.specs.declared.merge.MergeStop.TheVariants.{FirstFault, SecondFault, WriteFault, TooLong, Torn, SecondTorn, Unequal}
 
@@ -31,6 +32,12 @@ module _ (n n' n'' m m' m'' : Count) (same : n' ≡ n) (same' : m' ≡ m) (base 
       inl (omega (arith, less, a_is, b_is), rose_once_since same reported, unreported ∙ same')
   stop_since (Unequal blocks) (inr (less, unreported, reported)) =
       inr (omega (arith, less, a_is, b_is), unreported ∙ same, rose_once_since same' reported)
+
+  pub ends_since : {A : Type 0} (result : Result A MergeStop)
+      → EndsBoth result u v (from_to n' n'') (from_to m' m'')
+      → EndsBoth result a b (from_to n n'') (from_to m m'')
+  ends_since (Ok done) (reported, reported') = (rose_once_since same reported, rose_once_since same' reported')
+  ends_since (Err stop) ended = stop_since stop ended
 
 -- one more block was read
 pub block_more : (block : ℕ) (us : List ℕ) (before now last : Count) → length us ≡ 96

@@ -75,3 +75,13 @@ counted_last A first first' first'' second second' second'' out out' (SecondTorn
     (same ∙ f, same' ∙ s, o)
 counted_last A first first' first'' second second' second'' out out' (Unequal n) f s o (same, same') =
     (same ∙ f, same' ∙ s, o)
+
+pub counted_at_end : (first first' first'' second second' second'' out out' : ℕ)
+    (result : Result Merged MergeStop)
+    → first' ≡ first → second' ≡ second → out' ≡ out
+    → CountsReadFaults result (from_to first' first'') (from_to second' second'')
+    → CountsFaults result (from_to first first'') (from_to second second'') (from_to out out')
+counted_at_end first first' first'' second second' second'' out out' (Ok merged) f s o (same, same') =
+    (same ∙ f, same' ∙ s, o)
+counted_at_end first first' first'' second second' second'' out out' (Err stop) f s o counts =
+    counted_last Merged first first' first'' second second' second'' out out' stop f s o counts

@@ -9,4 +9,5 @@ pub mod Ends
 pub mod Faults
 pub mod Stops
 pub mod Working
+pub mod MergeReads
 pub mod Restoring

@@ -12,6 +12,7 @@ use Rattle.cdg_io.specs.Whole.{ReadsUpTo}
 use Rattle.cdg_io.specs.declared.ends.Source.{Ghosts as Source}
 use Rattle.rw_merge.specs.Merging.{ReadInput, EndReportedUnlessAhead, read_input}
 use Rattle.rw_merge.specs.Steps.{AsksFor, IsHalfRead, ReadsNoMore, ReadsPair}
+use Rattle.rw_merge.specs.declared.merge.Merged.{Merged}
 use Rattle.rw_merge.specs.declared.merge.MergeStop.{MergeStop}
 use Rattle.rw_merge.specs.declared.merge.MergeStop.TheVariants.{FirstFault, SecondFault, TooLong, Torn, SecondTorn, Unequal}
 
@@ -328,9 +329,9 @@ module _ {E : Type 0} {first : ReadInput} {f : Change ℕ} {byte : List ℕ} whe
 
 module _ {E : Type 0} {first second : ReadInput} {f s : Change ℕ} {byte rest : List ℕ} {n : ℕ}
     (a : AsksFor {E = E} 1 first f (Ok n) byte) (none : n ≡ 0) where
-  pub no_byte_follows : (m : ℕ) → AsksFor {E = E} 1 second s (Ok m) rest → m ≡ 0
-      → ReadsNoMore (Ok tt) first second
-  no_byte_follows m b none' = record {
+  pub no_byte_follows : (merged : Merged) (m : ℕ) → AsksFor {E = E} 1 second s (Ok m) rest → m ≡ 0
+      → ReadsNoMore (Ok merged) first second
+  no_byte_follows merged m b none' = record {
     taken = take n byte;
     other_taken = take m rest;
     took = a.took;

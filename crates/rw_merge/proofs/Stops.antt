@@ -1,10 +1,11 @@
 -- A stop and both inputs, if it occurred while a pair of blocks or the end of both was read.
 use Rattle.std.proofs.Common.{◌≡◌, ℕ, ◌+◌, ◌*◌, ◌/◌, ◌%◌, ◌<◌, ◌≤◌, List, length, ap, ◌∙◌, inl, inr, arith, length-append}
-use Rattle.std.specs.Prelude.{Option, Some, None, Err, IfSome}
+use Rattle.std.specs.Prelude.{Option, Some, None, Result, Ok, Err, IfSome}
 use Rattle.std.specs.Io.KnownBytes.{Consumes, IsAtEnd}
 use Rattle.raw_subcode.specs.Sizes.{most_units}
 use Rattle.rw_merge.specs.Merging.{FirstIsAtEnd, EndsSecond, IsAnswer}
 use Rattle.rw_merge.specs.Steps.{IsEndRead, IsHalfRead, IsPairRead, Taken, taken_of}
+use Rattle.rw_merge.specs.declared.merge.Merged.{Merged}
 use Rattle.rw_merge.specs.declared.merge.MergeStop.{MergeStop}
 use Rattle.rw_merge.specs.declared.merge.MergeStop.TheVariants.{FirstFault, SecondFault, WriteFault, TooLong, Torn, SecondTorn, Unequal}
 
@@ -146,27 +147,17 @@ second_at_end blocks first other (Unequal n) vs read = tt
 
 -- ---- The same, if nothing more may follow.
 
-pub first_at_end_after : (left : Option (List ℕ)) (first second : Taken) (stop : MergeStop)
-    → IsEndRead (Err stop) first second
-    → FirstIsAtEnd (Err stop) left
-first_at_end_after left first second FirstFault read = tt
-first_at_end_after left first second SecondFault read = tt
-first_at_end_after left first second WriteFault read = tt
-first_at_end_after left first second TooLong read = tt
-first_at_end_after left first second (Torn n) read = absurd read
-first_at_end_after left first second (SecondTorn n) read = tt
-first_at_end_after left first second (Unequal n) read = tt
-
-pub second_at_end_after : (other : Option (List ℕ)) (first second : Taken) (stop : MergeStop)
-    → IsEndRead (Err stop) first second
-    → EndsSecond (Err stop) other
-second_at_end_after other first second FirstFault read = tt
-second_at_end_after other first second SecondFault read = tt
-second_at_end_after other first second WriteFault read = tt
-second_at_end_after other first second TooLong read = tt
-second_at_end_after other first second (Torn n) read = tt
-second_at_end_after other first second (SecondTorn n) read = absurd read
-second_at_end_after other first second (Unequal n) read = tt
+pub at_ends_after : (left other : Option (List ℕ)) (result : Result Merged MergeStop) (us vs : List ℕ)
+    → IsEndRead result (taken_of us left) (taken_of vs other)
+    → FirstIsAtEnd result left × EndsSecond result other
+at_ends_after left other (Ok merged) us vs read = (read.2, read.3)
+at_ends_after left other (Err FirstFault) us vs read = (tt, tt)
+at_ends_after left other (Err SecondFault) us vs read = (tt, tt)
+at_ends_after left other (Err WriteFault) us vs read = (tt, tt)
+at_ends_after left other (Err TooLong) us vs read = (tt, tt)
+at_ends_after left other (Err (Torn n)) us vs read = absurd read
+at_ends_after left other (Err (SecondTorn n)) us vs read = absurd read
+at_ends_after left other (Err (Unequal n)) us vs read = (tt, tt)
 
 -- ---- A failed write says nothing about the lengths.
 

@@ -327,7 +327,7 @@ short_pair blocks left other (Unequal n) us vs read =
       }
     ]
 
-pub short_end : (left other : Option (List ℕ)) (stop : MergeStop) (us vs : List ℕ)
+short_end : (left other : Option (List ℕ)) (stop : MergeStop) (us vs : List ℕ)
     → IsEndRead (Err stop) (taken_of us left) (taken_of vs other)
     → (length us ≤ 1) × (length vs ≤ 1) × (stop ≢ WriteFault)
 short_end left other FirstFault us vs read =
@@ -407,7 +407,7 @@ pair_stops lead_in blocks left left' left'' other other' other'' held held' w v 
     (taken_exactly a _ left'' a_is) (taken_exactly b _ other'' b_is) lt read)
     (λ a b a_is b_is. pair_turns blocks a b left'' other'' stop us vs a_is b_is lt read) tt
 
-pub end_stops : (lead_in blocks : ℕ) (left left' left'' other other' other'' held held' : Option (List ℕ))
+end_stops : (lead_in blocks : ℕ) (left left' left'' other other' other'' held held' : Option (List ℕ))
     (w v : List (List ℕ)) (bad : ℕ) (xs ys us vs : List ℕ) (stop : MergeStop)
     → Works lead_in blocks left left' other other' held held' w v bad xs ys
     → IsEndRead (Err stop) (taken_of us left'') (taken_of vs other'') → blocks ≡ most_units
@@ -436,7 +436,7 @@ pair_of_whole lead_in blocks left left' left'' other other' other'' held held' w
     works.is_found.second_size
     (λ a b a_is b_is. pair_answer lead_in blocks a b left'' other'' stop us vs a_is b_is lt read)
 
-pub end_of_whole : (lead_in blocks : ℕ) (left left' left'' other other' other'' held held' : Option (List ℕ))
+end_of_whole : (lead_in blocks : ℕ) (left left' left'' other other' other'' held held' : Option (List ℕ))
     (w v : List (List ℕ)) (bad : ℕ) (xs ys us vs : List ℕ) (stop : MergeStop)
     → Works lead_in blocks left left' other other' held held' w v bad xs ys → Consumes left' left'' us
     → Consumes other' other'' vs → IsEndRead (Err stop) (taken_of us left'') (taken_of vs other'')
@@ -472,6 +472,56 @@ both_of_whole lead_in blocks total answered left left' left'' other other' other
       omega (arith, one, none),
       total_is ∙ omega (arith, one, none),
     ))
+
+-- ---- The reads after all blocks, for each result.
+
+pub short_reads : (left other : Option (List ℕ)) (result : Result Merged MergeStop) (us vs : List ℕ)
+    → IsEndRead result (taken_of us left) (taken_of vs other)
+    → (length us ≤ 1) × (length vs ≤ 1)
+short_reads left other (Ok merged) us vs read =
+    (omega (arith, ap length read.0), omega (arith, ap length read.1))
+short_reads left other (Err stop) us vs read =
+    let short = short_end left other stop us vs read in
+    (short.0, short.1)
+
+pub merges_at_end : (lead_in blocks total : ℕ)
+    (left left' left'' other other' other'' held held' : Option (List ℕ)) (w v : List (List ℕ)) (bad : ℕ)
+    (xs ys us vs : List ℕ) (result : Result Merged MergeStop)
+    → Works lead_in blocks left left' other other' held held' w v bad xs ys
+    → IfOk result (λ merged. merged ≡ record { blocks = total; bad = bad })
+    → IsEndRead result (taken_of us left'') (taken_of vs other'') → blocks ≡ most_units
+    → total ≡ most_units - lead_in
+    → Merges lead_in (from_to held held') result (xs ++ us) (ys ++ vs)
+merges_at_end lead_in blocks total left left' left'' other other' other'' held held' w v bad xs ys us vs
+    (Ok merged) works is read all total_is =
+    subst (λ (m : Merged). Merges lead_in (from_to held held') (Ok m) (xs ++ us) (ys ++ vs)) (sym is)
+    (ends lead_in blocks total left left' other other' held held' w v bad xs ys us vs works read.0 read.1
+    (omega (arith, all)) (omega (arith, all, total_is)))
+merges_at_end lead_in blocks total left left' left'' other other' other'' held held' w v bad xs ys us vs
+    (Err stop) works is read all total_is =
+    end_stops lead_in blocks left left' left'' other other' other'' held held' w v bad xs ys us vs stop works
+    read all
+
+pub answer_at_end : (lead_in blocks total : ℕ)
+    (left left' left'' other other' other'' held held' : Option (List ℕ)) (w v : List (List ℕ)) (bad : ℕ)
+    (xs ys us vs : List ℕ) (result : Result Merged MergeStop)
+    → Works lead_in blocks left left' other other' held held' w v bad xs ys
+    → Consumes left' left'' us → Consumes other' other'' vs
+    → IfOk result (λ merged. merged ≡ record { blocks = total; bad = bad })
+    → IsEndRead result (taken_of us left'') (taken_of vs other'') → blocks ≡ most_units
+    → total ≡ most_units - lead_in
+    → IfSome left (λ all. IfSome other (λ every. IsAnswer lead_in result (length all) (length every)))
+answer_at_end lead_in blocks total left left' left'' other other' other'' held held' w v bad xs ys us vs
+    (Ok merged) works first second is read all total_is =
+    subst (λ (m : Merged).
+    IfSome left (λ whole. IfSome other (λ every. IsAnswer lead_in (Ok m) (length whole) (length every))))
+    (sym is)
+    (both_of_whole lead_in blocks total bad left left' left'' other other' other'' held held' w v bad xs ys us
+    vs works first second read.0 read.1 read.2 read.3 (omega (arith, all)) (omega (arith, all, total_is)))
+answer_at_end lead_in blocks total left left' left'' other other' other'' held held' w v bad xs ys us vs
+    (Err stop) works first second is read all total_is =
+    end_of_whole lead_in blocks left left' left'' other other' other'' held held' w v bad xs ys us vs stop
+    works first second read all
 
 -- The results for a pair of program blocks, and their text.
 pub record IsPairFound (w v : List (List ℕ)) (us vs : List ℕ) (w' v' : List (List ℕ)) (text : List ℕ)

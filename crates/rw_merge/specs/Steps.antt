@@ -82,7 +82,7 @@ IsPairRead block (Err (Unequal n)) first second = (n ≡ block)
 IsPairRead block (Err stop) first second = ⊥
 
 -- These bytes of both inputs were consumed when the end of both inputs was checked.
-abbrev pub IsEndRead : Result (Unit {0}) MergeStop → Taken → Taken → Type 0
+abbrev pub IsEndRead : Result Merged MergeStop → Taken → Taken → Type 0
 IsEndRead (Ok done) first second =
     (first.bytes ≡ []) × (second.bytes ≡ []) × IsAtEnd first.left × IsAtEnd second.left
 IsEndRead (Err TooLong) first second = ((length first.bytes ≡ 1) × (second.bytes ≡ []))
@@ -105,7 +105,7 @@ ReadsPair block result one other first second = ReadsBoth
     (EndsOfPair result) (λ bytes. bytes / block_bytes) first second
 
 -- A byte of each input was requested, to check that nothing follows.
-abbrev pub ReadsNoMore : Result (Unit {0}) MergeStop → ReadInput → ReadInput → Type 0
+abbrev pub ReadsNoMore : Result Merged MergeStop → ReadInput → ReadInput → Type 0
 ReadsNoMore result first second = ReadsBoth
     (λ xs ys. IsEndRead result (taken_of xs first.left.after) (taken_of ys second.left.after))
     (EndsBoth result) (λ bytes. bytes) first second

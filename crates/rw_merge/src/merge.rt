@@ -12,7 +12,7 @@ ghost use Rattle.raw_subcode.specs.Sizes.{slots_a_block};
 ghost use Rattle.rw_code.specs.Packs.{idle_pack};
 
 use crate::packs::Packs;
-use crate::pairs::{next_pair, nothing_follows};
+use crate::pairs::{end_merge, next_pair};
 use cdg_io::{Failed, Sink, Source, put_all};
 use raw_subcode::{BLOCK_BYTES, MOST_UNITS};
 use rw_interleave::{Gather, found_packs_are_the_text};
@@ -188,13 +188,11 @@ impl Merger {
             }
         }
         out.pass_waiting();
-        match nothing_follows(first, second) {
-            Ok(()) => Ok(Merged {
-                blocks: MOST_UNITS - lead_in,
-                bad,
-            }),
-            Err(stop) => Err(stop),
-        }
+        let merged = Merged {
+            blocks: MOST_UNITS - lead_in,
+            bad,
+        };
+        end_merge(first, second, merged)
     }
 
     // Gathers a pair of program blocks, and sets `packs` to the packs that end with it.

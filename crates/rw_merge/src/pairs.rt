@@ -1,12 +1,12 @@
 // Pairs of blocks, one of each input, in turn.
-ghost use Rattle.std.specs.Prelude.{◌≡◌};
+ghost use Rattle.std.specs.Prelude.{◌≡◌, IfOk};
 ghost use Rattle.std.specs.Io.KnownBytes.{Keeps};
 ghost use Rattle.cdg_io.specs.Change.{change};
 ghost use Rattle.rw_merge.specs.Merging.{read_input};
 ghost use Rattle.rw_merge.specs.Steps.{CountsReadFaults, ReadsNoMore, ReadsPair};
 
 use crate::blocks::{next_block, next_byte};
-use crate::merge::MergeStop;
+use crate::merge::{MergeStop, Merged};
 use cdg_io::{Failed, Sink, Source};
 use raw_subcode::BLOCK_BYTES;
 
@@ -54,14 +54,16 @@ pub(crate) fn next_pair<S: Source, T: Source, K: Sink>(
     Ok(true)
 }
 
-/// Checks that no byte follows in either input.
+/// Checks that no byte follows in either input, and returns the result of the merge.
 ///
 /// # Errors
 /// `TooLong` if a byte follows, or a fault if a read failed.
-pub(crate) fn nothing_follows<S: Source, T: Source>(
+pub(crate) fn end_merge<S: Source, T: Source>(
     first: &mut S,
     second: &mut T,
-) -> Result<(), MergeStop>
+    merged: Merged,
+) -> Result<Merged, MergeStop>
+    ensures merged { IfOk result (λ m. m ≡ merged) }
     ensures end { ReadsNoMore result (read_input S.Source first.old first.new)
         (read_input T.Source second.old second.new) }
     ensures faults { CountsReadFaults result (change S.faults first.old first.new)
@@ -73,7 +75,7 @@ pub(crate) fn nothing_follows<S: Source, T: Source>(
         Err(Failed) => return Err(MergeStop::FirstFault),
     }
     match next_byte(second) {
-        Ok(0) => Ok(()),
+        Ok(0) => Ok(merged),
         Ok(_) => Err(MergeStop::TooLong),
         Err(Failed) => Err(MergeStop::SecondFault),
     }

@@ -1,13 +1,12 @@
-use Rattle.std.proofs.Common.{◌≡◌, ◌*◌, ◌++◌, [], length, length-append, sym, ap, ◌∙◌, refl, subst, arith}
+use Rattle.std.proofs.Common.{◌++◌, [], length, sym, ap, ◌∙◌, refl, subst, arith}
 use Rattle.std.specs.Prelude.{Bool}
 use Rattle.std.specs.Io.KnownBytes.{Appends}
-use Rattle.std.proofs.KnownBytes.{Consumes-trans}
-use Rattle.raw_subcode.specs.Sizes.{most_units}
-use Rattle.cdg_io.proofs.Stops.{later_since, rose_once_since, rose_since}
-use Rattle.rw_merge.proofs.Faults.{counted_last}
-use Rattle.rw_merge.proofs.Ends.{block_more, blocks_filled, byte_filled_after, stop_since}
-use Rattle.rw_merge.proofs.Stops.{first_at_end, first_at_end_after, second_at_end, second_at_end_after, write_answer}
-use Rattle.rw_merge.proofs.Working.{bad_fits, works_kept, both_of_whole, end_of_whole, end_stops, ends, pair_found, pair_of_whole, pair_stops, short_end, short_pair, skipped_as, works_more, works_none, write_stops}
+use Rattle.cdg_io.proofs.Stops.{later_since, rose_since}
+use Rattle.rw_merge.proofs.Faults.{counted_at_end, counted_last}
+use Rattle.rw_merge.proofs.Ends.{block_more}
+use Rattle.rw_merge.proofs.Stops.{at_ends_after, first_at_end, second_at_end, write_answer}
+use Rattle.rw_merge.proofs.MergeReads.{both_ended, read_all, stopped, write_failed}
+use Rattle.rw_merge.proofs.Working.{answer_at_end, bad_fits, works_kept, both_of_whole, pair_found, pair_of_whole, skipped_as, works_more, works_none}
 use Rattle.rw_merge.proofs.merge.Merger.merge_pairs.Goals as goal
 use Rattle.rw_merge.proofs.merge.Merger.merge_pairs.Goals.{then-block-lead_in+in-Ok, else-block-lead_in}
 
@@ -28,34 +27,14 @@ pub returns-in-Ok-false-clause-merges : goal.returns-in-Ok-false-clause-merges
 returns-in-Ok-false-clause-merges g c =
     let before = c.loop-block.invariant in
     let (xs, ys, worked) = before.works in
-    let works = works_kept _ _ _ _ _ _ _ _ _ _ _ _ _ _ worked c.in-Ok-false.ensures.keeps in
-    let sizes = works.is_found in
-    let pair = rw c.in-Ok-false.field-0-test at c.in-Ok-false.ensures.pair in
-    let (none, none', end, end') = pair.said.0 in
-    record {
-      taken = xs ++ pair.taken;
-      other_taken = ys ++ pair.other_taken;
-      took = Consumes-trans _ _ _ xs pair.taken works.first_taken pair.took;
-      other_took = Consumes-trans _ _ _ ys pair.other_taken works.second_taken pair.other_took;
-      said =
-          ends c.args.lead_in c.loop-block.block _ _ _ _ _ _ _ _ _ _ xs ys _ _ works none none'
-          (omega (arith, c.loop-block-test.true)) c.saturating_sub.ensures;
-      ended = (
-        rose_once_since before.first_reported pair.ended.0,
-        rose_once_since before.second_reported pair.ended.1,
-      );
-      filled =
-          blocks_filled c.loop-block.block xs _ _ _ _ sizes.first_size (omega (arith, ap length none))
-          c.loop-block-test.true before.first_rooms pair.filled;
-      other_filled =
-          blocks_filled c.loop-block.block ys _ _ _ _ sizes.second_size (omega (arith, ap length none'))
-          c.loop-block-test.true before.second_rooms pair.other_filled;
-    }
+    both_ended worked _ c.in-Ok-false.ensures.keeps before.first_reported before.second_reported
+    before.first_rooms before.second_rooms _ _ _ _ _ _ _ _ c.saturating_sub.result
+    c.saturating_sub.ensures c.loop-block-test.true
+    (rw c.in-Ok-false.field-0-test at c.in-Ok-false.ensures.pair)
 
 pub returns-in-Ok-false-clause-answer : goal.returns-in-Ok-false-clause-answer
 returns-in-Ok-false-clause-answer g c =
-    let (xs, ys, worked) = c.loop-block.invariant.works in
-    let works = works_kept _ _ _ _ _ _ _ _ _ _ _ _ _ _ worked c.in-Ok-false.ensures.keeps in
+    let (xs, ys, works) = c.loop-block.invariant.works in
     let pair = rw c.in-Ok-false.field-0-test at c.in-Ok-false.ensures.pair in
     let read = pair.said.0 in
     both_of_whole c.args.lead_in c.loop-block.block _ c.loop-block.bad _ _ _ _ _ _ _ _ _ _ _ xs ys _ _ works
@@ -66,128 +45,36 @@ pub returns-in-Err-clause-merges : goal.returns-in-Err-clause-merges
 returns-in-Err-clause-merges g c =
     let before = c.loop-block.invariant in
     let (xs, ys, worked) = before.works in
-    let works = works_kept _ _ _ _ _ _ _ _ _ _ _ _ _ _ worked c.in-Err.ensures.keeps in
-    let sizes = works.is_found in
-    let pair = c.in-Err.ensures.pair in
-    let short = short_pair c.loop-block.block _ _ c.in-Err.stop _ _ pair.said.0 in
-    record {
-      taken = xs ++ pair.taken;
-      other_taken = ys ++ pair.other_taken;
-      took = Consumes-trans _ _ _ xs pair.taken works.first_taken pair.took;
-      other_took = Consumes-trans _ _ _ ys pair.other_taken works.second_taken pair.other_took;
-      said =
-          pair_stops c.args.lead_in c.loop-block.block _ _ _ _ _ _ _ _ _ _ _ xs ys _ _ c.in-Err.stop works
-          pair.said.0 c.loop-block-test.true;
-      ended =
-          stop_since _ _ _ _ _ _ before.first_reported before.second_reported (c.loop-block.block * 96) _ _ _
-          _
-          (omega (arith, length-append xs pair.taken, sizes.first_size))
-          (omega (arith, length-append ys pair.other_taken, sizes.second_size)) c.in-Err.stop pair.ended;
-      filled =
-          blocks_filled c.loop-block.block xs _ _ _ _ sizes.first_size short.first
-          c.loop-block-test.true before.first_rooms pair.filled;
-      other_filled =
-          blocks_filled c.loop-block.block ys _ _ _ _ sizes.second_size short.second
-          c.loop-block-test.true before.second_rooms pair.other_filled;
-    }
+    stopped worked _ c.in-Err.ensures.keeps before.first_reported before.second_reported before.first_rooms
+    before.second_rooms _ _ _ _ _ _ _ _ c.in-Err.stop c.loop-block-test.true c.in-Err.ensures.pair
 
 pub returns-in-Err-clause-answer : goal.returns-in-Err-clause-answer
 returns-in-Err-clause-answer g c =
-    let (xs, ys, worked) = c.loop-block.invariant.works in
-    let works = works_kept _ _ _ _ _ _ _ _ _ _ _ _ _ _ worked c.in-Err.ensures.keeps in
+    let (xs, ys, works) = c.loop-block.invariant.works in
     let pair = c.in-Err.ensures.pair in
     pair_of_whole c.args.lead_in c.loop-block.block _ _ _ _ _ _ _ _ _ _ _ xs ys _ _ c.in-Err.stop works
     pair.took pair.other_took pair.said.0 c.loop-block-test.true
 
-pub returns-in-Ok-nothing_follows-clause-merges : goal.returns-in-Ok-nothing_follows-clause-merges
-returns-in-Ok-nothing_follows-clause-merges g c =
+pub returns-clause-merges : goal.returns-clause-merges
+returns-clause-merges g c =
     let before = c.loop-block.invariant in
     let (xs, ys, worked) = before.works in
-    let works = works_kept _ _ _ _ _ _ _ _ _ _ _ _ _ _ worked c.pass_waiting.ensures.bytes in
-    let sizes = works.is_found in
-    let pair = c.in-Ok-nothing_follows.ensures.end in
-    let (none, none', end, end') = pair.said in
-    let all : c.loop-block.block ≡ most_units =
-    omega (arith, c.loop-block.auto.block-end, c.loop-block-test.false) in
-    record {
-      taken = xs ++ pair.taken;
-      other_taken = ys ++ pair.other_taken;
-      took = Consumes-trans _ _ _ xs pair.taken works.first_taken pair.took;
-      other_took = Consumes-trans _ _ _ ys pair.other_taken works.second_taken pair.other_took;
-      said =
-          ends c.args.lead_in c.loop-block.block _ _ _ _ _ _ _ _ _ _ xs ys _ _ works none none'
-          (omega (arith, c.loop-block.auto.block-end)) (omega (arith, all));
-      ended = (
-        rose_once_since before.first_reported pair.ended.0,
-        rose_once_since before.second_reported pair.ended.1,
-      );
-      filled =
-          byte_filled_after c.loop-block.block xs _ _ _ _ sizes.first_size (omega (arith, ap length none)) all
-          before.first_rooms pair.filled;
-      other_filled =
-          byte_filled_after c.loop-block.block ys _ _ _ _ sizes.second_size (omega (arith, ap length none'))
-          all
-          before.second_rooms pair.other_filled;
-    }
+    read_all worked _ c.pass_waiting.ensures.bytes before.first_reported before.second_reported
+    before.first_rooms before.second_rooms _ _ _ _ _ _ c.end_merge.result _ c.end_merge.ensures.merged
+    (omega (arith, c.loop-block.auto.block-end, c.loop-block-test.false)) refl c.end_merge.ensures.end
 
-pub returns-in-Ok-nothing_follows-clause-answer : goal.returns-in-Ok-nothing_follows-clause-answer
-returns-in-Ok-nothing_follows-clause-answer g c =
-    let (xs, ys, worked) = c.loop-block.invariant.works in
-    let works = works_kept _ _ _ _ _ _ _ _ _ _ _ _ _ _ worked c.pass_waiting.ensures.bytes in
-    let pair = c.in-Ok-nothing_follows.ensures.end in
-    let read = pair.said in
-    both_of_whole c.args.lead_in c.loop-block.block _ c.loop-block.bad _ _ _ _ _ _ _ _ _ _ _ xs ys _ _ works
-    pair.took pair.other_took read.0 read.1 read.2 read.3 (omega (arith, c.loop-block.auto.block-end))
-    (omega (arith, c.loop-block.auto.block-end, c.loop-block-test.false))
-
-pub returns-in-Err-nothing_follows-clause-merges : goal.returns-in-Err-nothing_follows-clause-merges
-returns-in-Err-nothing_follows-clause-merges g c =
-    let before = c.loop-block.invariant in
-    let (xs, ys, worked) = before.works in
-    let works = works_kept _ _ _ _ _ _ _ _ _ _ _ _ _ _ worked c.pass_waiting.ensures.bytes in
-    let sizes = works.is_found in
-    let pair = c.in-Err-nothing_follows.ensures.end in
-    let short = short_end _ _ c.in-Err-nothing_follows.stop _ _ pair.said in
-    let all : c.loop-block.block ≡ most_units =
-    omega (arith, c.loop-block.auto.block-end, c.loop-block-test.false) in
-    record {
-      taken = xs ++ pair.taken;
-      other_taken = ys ++ pair.other_taken;
-      took = Consumes-trans _ _ _ xs pair.taken works.first_taken pair.took;
-      other_took = Consumes-trans _ _ _ ys pair.other_taken works.second_taken pair.other_took;
-      said =
-          end_stops c.args.lead_in c.loop-block.block _ _ _ _ _ _ _ _ _ _ _ xs ys _ _
-          c.in-Err-nothing_follows.stop works pair.said all;
-      ended =
-          stop_since _ _ _ _ _ _ before.first_reported before.second_reported (c.loop-block.block * 96) _ _ _
-          _
-          (omega (arith, length-append xs pair.taken, sizes.first_size))
-          (omega (arith, length-append ys pair.other_taken, sizes.second_size))
-          c.in-Err-nothing_follows.stop pair.ended;
-      filled =
-          byte_filled_after c.loop-block.block xs _ _ _ _ sizes.first_size short.0 all
-          before.first_rooms pair.filled;
-      other_filled =
-          byte_filled_after c.loop-block.block ys _ _ _ _ sizes.second_size short.1 all
-          before.second_rooms pair.other_filled;
-    }
-
-pub returns-in-Err-nothing_follows-clause-answer : goal.returns-in-Err-nothing_follows-clause-answer
-returns-in-Err-nothing_follows-clause-answer g c =
-    let (xs, ys, worked) = c.loop-block.invariant.works in
-    let works = works_kept _ _ _ _ _ _ _ _ _ _ _ _ _ _ worked c.pass_waiting.ensures.bytes in
-    let pair = c.in-Err-nothing_follows.ensures.end in
-    let read = pair.said in
-    end_of_whole c.args.lead_in c.loop-block.block _ _ _ _ _ _ _ _ _ _ _ xs ys _ _
-    c.in-Err-nothing_follows.stop works pair.took pair.other_took read
-    (omega (arith, c.loop-block.auto.block-end, c.loop-block-test.false))
+pub returns-clause-answer : goal.returns-clause-answer
+returns-clause-answer g c =
+    let (xs, ys, works) = c.loop-block.invariant.works in
+    let pair = c.end_merge.ensures.end in
+    answer_at_end c.args.lead_in c.loop-block.block _ _ _ _ _ _ _ _ _ _ _ _ xs ys _ _ c.end_merge.result
+    works pair.took pair.other_took c.end_merge.ensures.merged pair.said
+    (omega (arith, c.loop-block.auto.block-end, c.loop-block-test.false)) refl
 
 pub returns-in-Err-put_all-clause-merges : goal.returns-in-Err-put_all-clause-merges
 returns-in-Err-put_all-clause-merges g c =
     let before = c.loop-block.invariant in
     let (xs, ys, worked) = before.works in
-    let works = works_kept _ _ _ _ _ _ _ _ _ _ _ _ _ _ worked c.in-Ok-true.ensures.keeps in
-    let sizes = works.is_found in
     let pair = rw c.in-Ok-true.field-0-test at c.in-Ok-true.ensures.pair in
     let (u_is, v_is) = pair.said.1 refl in
     let (u_size, v_size) = pair.said.0 in
@@ -196,22 +83,9 @@ returns-in-Err-put_all-clause-merges g c =
     _ _ _ c.merge.new.self.first c.merge.new.self.second c.merge.new.packs.bytes c.bytes.result.now
     c.merge.new.packs.bad u_is v_is u_size v_size refl refl c.bytes.ensures.bytes
     c.merge.ensures.first c.merge.ensures.second c.merge.ensures.packs in
-    record {
-      taken = xs ++ pair.taken;
-      other_taken = ys ++ pair.other_taken;
-      took = Consumes-trans _ _ _ xs pair.taken works.first_taken pair.took;
-      other_took = Consumes-trans _ _ _ ys pair.other_taken works.second_taken pair.other_took;
-      said =
-          write_stops c.args.lead_in c.loop-block.block _ _ _ _ _ _ _ _ _ _ _ _ _ xs ys _ _ _ works u_size
-          v_size c.if-block-lead_in.true c.loop-block-test.true found c.in-Err-put_all.ensures.part;
-      ended = (pair.ended.0 ∙ before.first_reported, pair.ended.1 ∙ before.second_reported);
-      filled =
-          blocks_filled c.loop-block.block xs _ _ _ _ sizes.first_size (omega (arith, u_size))
-          c.loop-block-test.true before.first_rooms pair.filled;
-      other_filled =
-          blocks_filled c.loop-block.block ys _ _ _ _ sizes.second_size (omega (arith, v_size))
-          c.loop-block-test.true before.second_rooms pair.other_filled;
-    }
+    write_failed worked _ c.in-Ok-true.ensures.keeps before.first_reported before.second_reported
+    before.first_rooms before.second_rooms _ _ _ _ _ _ _ _ _ _ _ _ _ c.if-block-lead_in.true
+    c.loop-block-test.true pair found c.in-Err-put_all.ensures.part
 
 pub loop-block-preserved : goal.loop-block-preserved
 loop-block-preserved g c =
@@ -309,32 +183,14 @@ returns-in-Err-clause-at_ends g c =
       second_at_end c.loop-block.block _ _ c.in-Err.stop _ read,
     )
 
-pub returns-in-Ok-nothing_follows-clause-faults : goal.returns-in-Ok-nothing_follows-clause-faults
-returns-in-Ok-nothing_follows-clause-faults g c =
-    let (first, second) = c.in-Ok-nothing_follows.ensures.faults in (
-      first ∙ c.loop-block.invariant.no_first_fault,
-      second ∙ c.loop-block.invariant.no_second_fault,
-      (c.pass_waiting.ensures.no_fault ∙ c.loop-block.invariant.no_write_fault),
-    )
+pub returns-clause-faults : goal.returns-clause-faults
+returns-clause-faults g c =
+    counted_at_end _ _ _ _ _ _ _ _ c.end_merge.result c.loop-block.invariant.no_first_fault
+    c.loop-block.invariant.no_second_fault
+    (c.pass_waiting.ensures.no_fault ∙ c.loop-block.invariant.no_write_fault) c.end_merge.ensures.faults
 
-pub returns-in-Ok-nothing_follows-clause-at_ends : goal.returns-in-Ok-nothing_follows-clause-at_ends
-returns-in-Ok-nothing_follows-clause-at_ends g c =
-    let read = c.in-Ok-nothing_follows.ensures.end.said in
-    (read.2, read.3)
-
-pub returns-in-Err-nothing_follows-clause-faults : goal.returns-in-Err-nothing_follows-clause-faults
-returns-in-Err-nothing_follows-clause-faults g c =
-    counted_last (Unit {0}) _ _ _ _ _ _ _ _ c.in-Err-nothing_follows.stop
-    c.loop-block.invariant.no_first_fault c.loop-block.invariant.no_second_fault
-    (c.pass_waiting.ensures.no_fault ∙ c.loop-block.invariant.no_write_fault)
-    c.in-Err-nothing_follows.ensures.faults
-
-pub returns-in-Err-nothing_follows-clause-at_ends : goal.returns-in-Err-nothing_follows-clause-at_ends
-returns-in-Err-nothing_follows-clause-at_ends g c =
-    let read = c.in-Err-nothing_follows.ensures.end.said in (
-      first_at_end_after _ _ _ c.in-Err-nothing_follows.stop read,
-      second_at_end_after _ _ _ c.in-Err-nothing_follows.stop read,
-    )
+pub returns-clause-at_ends : goal.returns-clause-at_ends
+returns-clause-at_ends g c = at_ends_after _ _ c.end_merge.result _ _ c.end_merge.ensures.end.said
 
 pub returns-in-Err-put_all-clause-faults : goal.returns-in-Err-put_all-clause-faults
 returns-in-Err-put_all-clause-faults g c =

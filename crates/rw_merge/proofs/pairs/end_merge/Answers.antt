@@ -1,6 +1,6 @@
 use Rattle.std.proofs.Common.{refl}
 use Rattle.rw_merge.proofs.PairReads.{end_of_first_failed, end_of_second_failed, first_goes_on, no_byte_follows, second_goes_on}
-use Rattle.rw_merge.proofs.pairs.nothing_follows.Goals as goal
+use Rattle.rw_merge.proofs.pairs.end_merge.Goals as goal
 
 pub returns-in-Ok-clause-end : goal.returns-in-Ok-clause-end
 returns-in-Ok-clause-end g c =
@@ -11,7 +11,7 @@ returns-in-Err-clause-end g c = end_of_first_failed _ _ _ _ c.in-Err.ensures.1
 
 pub returns-in-Ok-eq0-next_byte-clause-end : goal.returns-in-Ok-eq0-next_byte-clause-end
 returns-in-Ok-eq0-next_byte-clause-end g c =
-    no_byte_follows c.in-Ok-eq0.ensures.1 c.in-Ok-eq0.field-0-test c.in-Ok-eq0-next_byte.field-0
+    no_byte_follows c.in-Ok-eq0.ensures.1 c.in-Ok-eq0.field-0-test c.args.merged c.in-Ok-eq0-next_byte.field-0
     c.in-Ok-eq0-next_byte.ensures.1 c.in-Ok-eq0-next_byte.field-0-test
 
 pub returns-in-Ok-next_byte-clause-end : goal.returns-in-Ok-next_byte-clause-end
