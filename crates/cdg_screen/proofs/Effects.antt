@@ -8,7 +8,7 @@ use Rattle.cdg_instructions.specs.declared.effect.Effect.TheVariants.{Clear, Bor
 use Rattle.cdg_instructions.specs.declared.instr.Instr.{Instr}
 use Rattle.cdg_instructions.specs.declared.instr.Instr.TheVariants.{Idle, Foreign, Unknown, MemoryPreset, BorderPreset, SetTile, XorTile, ScrollPreset, ScrollCopy, Transparency, ColoursLow, ColoursHigh}
 use Rattle.cdg_screen.specs.Standing.{memory_from, border_from, colour_from, level_from, offsets_from}
-use Rattle.cdg_screen.specs.Memory.{scrolled, with_tile}
+use Rattle.cdg_screen.specs.Memory.{moved_in, scrolled, with_tile}
 
 -- the pixels of the memory after an effect
 abbrev pub memory_by : Effect → (ℕ → ℕ → ℕ) → ℕ → ℕ → ℕ
@@ -36,6 +36,7 @@ offsets_by _ old = old
 
 pub memory_is : (instr : Instr) (old : ℕ → ℕ → ℕ) (x y : ℕ)
     → memory_by (effect_of instr) old x y ≡ memory_from old (instr ∷ []) x y
+unfolding moved_in
 memory_is Idle old x y = refl
 memory_is Foreign old x y = refl
 memory_is Unknown old x y = refl

@@ -53,7 +53,7 @@ with_tile tile old x y =
     else old x y
 
 -- pixel (x, y) after all pixels have moved; the free pixels wrap around or have this colour
-abbrev pub moved_in : Option ℕ → ℕ → ℕ → (ℕ → ℕ → ℕ) → ℕ → ℕ → ℕ
+unfoldable pub moved_in : Option ℕ → ℕ → ℕ → (ℕ → ℕ → ℕ) → ℕ → ℕ → ℕ
 moved_in (Some colour) across down old x y =
     if is_inside screen_width (source_x across x) && is_inside screen_height (source_y down y)
     then old (source_x across x - screen_width) (source_y down y - screen_height) else colour

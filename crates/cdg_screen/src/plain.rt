@@ -1,8 +1,8 @@
 // The state of a screen, and how an instruction changes it.
-ghost use Rattle.std.specs.Prelude.{◌≡◌, ◌<◌, ◌≤◌, ℕ, [], ◌∷◌, slice_index, length, All, IfOk, ◌+◌, ◌-◌, ◌&&◌, nat_le, nat_lt, if◌then◌else◌};
+ghost use Rattle.std.specs.Prelude.{◌≡◌, ◌↔◌, IsTrue, ◌<◌, ◌≤◌, ℕ, [], ◌∷◌, slice_index, length, All, IfOk, ◌+◌, ◌-◌, ◌&&◌, nat_le, nat_lt, if◌then◌else◌};
 ghost use Rattle.cdg_instructions.specs.Effect.{effect_of};
 ghost use Rattle.cdg_instructions.specs.Instruction.{InRange};
-ghost use Rattle.cdg_instructions.specs.Sizes.{colour_count, colour_values, level_values, screen_height, screen_pixels, screen_width};
+ghost use Rattle.cdg_instructions.specs.Sizes.{colour_count, colour_values, level_values, screen_height, screen_pixels, screen_width, tile_height, tile_width, window_bottom, window_right};
 ghost use Rattle.cdg_instructions.specs.declared.effect.Effect.TheVariants.{Draw};
 ghost use Rattle.cdg_instructions.specs.declared.instr.Instr.{Instr};
 ghost use Rattle.cdg_screen.specs.Standing.{blank, pixel_at, rows_in, standing_after, screen_pixel};
@@ -186,7 +186,7 @@ impl PlainScreen {
         ensures pixel { result ≡ screen_pixel (seen self.now) x y }
         ensures range { result < colour_count }
     {
-        if (LEFT..=RIGHT).contains(&x) && (TOP..=BOTTOM).contains(&y) {
+        if is_in_window(x, y) {
             self.memory.get(
                 x as usize + usize::from(self.h),
                 y as usize + usize::from(self.v),
@@ -237,6 +237,15 @@ impl PlainScreen {
     {
         self.v
     }
+}
+
+// Whether a pixel of the screen is in the window. Outside the window is the border.
+#[inline(always)]
+fn is_in_window(x: u32, y: u32) -> bool
+    ensures { IsTrue result
+        ↔ (tile_width ≤ x) × (x ≤ window_right) × (tile_height ≤ y) × (y ≤ window_bottom) }
+{
+    (LEFT..=RIGHT).contains(&x) && (TOP..=BOTTOM).contains(&y)
 }
 
 // Sets eight colours of a table from an entry on.

@@ -2,9 +2,9 @@
 ghost use Rattle.std.specs.Prelude.{◌≡◌, ◌<◌, ◌≤◌, ◌+◌, ◌-◌, ◌*◌, ◌%◌, ◌↔◌, ◌==◌, ◌&&◌, nat_le, nat_lt, if◌then◌else◌, ℕ, All, IsTrue, length, slice_index};
 ghost use Rattle.cdg_instructions.specs.Drawing.{tile_colour};
 ghost use Rattle.cdg_instructions.specs.Sizes.{colour_count, screen_height, screen_width, tile_width};
-ghost use Rattle.cdg_screen.specs.Standing.{covers, is_inside, source, source_x, source_y};
+ghost use Rattle.cdg_screen.specs.Standing.{covers, is_inside, source, source_x};
 ghost use Rattle.cdg_instructions.specs.Effect.{IsScrollInRange};
-ghost use Rattle.cdg_screen.specs.Memory.{at, Becomes, drawn_over, line_colour, scrolled, with_tile};
+ghost use Rattle.cdg_screen.specs.Memory.{at, Becomes, drawn_over, line_colour, moved_in, scrolled, with_tile};
 
 use crate::line_table::LINE_BYTES;
 use crate::memory::{Memory, is_on_memory, line_pixels};
@@ -79,12 +79,11 @@ impl Memory {
     }
 
     // Whether a scroll that wraps around leaves each pixel unchanged.
+    #[tactic(auto, unfolding(crate::specs::Memory::moved_in))]
     fn keeps_scrolled_round(&self, across: u8, down: u8) -> bool
         requires across { across ≤ 2 }
         requires down { down ≤ 2 }
-        ensures { IsTrue result
-            ↔ Becomes self.now (λ x y.
-            at self.now (source_x across x % screen_width) (source_y down y % screen_height)) }
+        ensures { IsTrue result ↔ Becomes self.now (moved_in None across down (at self.now)) }
     {
         if across == 0 && down == 0 {
             return true;
@@ -124,10 +123,7 @@ impl Memory {
     fn keeps_scrolled_in(&self, across: u8, down: u8, colour: u8) -> bool
         requires across { across ≤ 2 }
         requires down { down ≤ 2 }
-        ensures { IsTrue result ↔ Becomes self.now (λ x y.
-            if is_inside screen_width (source_x across x) && is_inside screen_height (source_y down y)
-            then at self.now (source_x across x - screen_width) (source_y down y - screen_height)
-            else colour) }
+        ensures { IsTrue result ↔ Becomes self.now (moved_in (Some colour) across down (at self.now)) }
     {
         if across == 0 && down == 0 {
             return true;
@@ -145,10 +141,8 @@ impl Memory {
         requires across { across ≤ 2 }
         requires down { down ≤ 2 }
         requires height { y < screen_height }
-        ensures { IsTrue result ↔ ((x : ℕ) → x < screen_width → at self.now x y
-            ≡ (if is_inside screen_width (source_x across x) && is_inside screen_height (source_y down y)
-            then at self.now (source_x across x - screen_width) (source_y down y - screen_height)
-            else colour)) }
+        ensures { IsTrue result ↔ ((x : ℕ) → x < screen_width
+            → at self.now x y ≡ moved_in (Some colour) across down (at self.now) x y) }
     {
         for x in 0..SCREEN_WIDTH {
             if self.get(x, y) != self.scrolled_in(across, down, colour, x, y) {
@@ -159,21 +153,17 @@ impl Memory {
     }
 
     // The pixel at a place after a scroll that fills the free pixels with a colour.
+    #[tactic(auto, unfolding(crate::specs::Memory::moved_in))]
     fn scrolled_in(&self, across: u8, down: u8, colour: u8, x: usize, y: usize) -> u8
         requires across { across ≤ 2 }
         requires down { down ≤ 2 }
         requires width { x < screen_width }
         requires height { y < screen_height }
-        ensures { result
-            ≡ (if is_inside screen_width (source_x across x) && is_inside screen_height (source_y down y)
-            then at self.now (source_x across x - screen_width) (source_y down y - screen_height)
-            else colour) }
+        ensures { result ≡ moved_in (Some colour) across down (at self.now) x y }
     {
         let from_x = source(SCREEN_WIDTH, TILE_WIDTH, across, x);
         let from_y = source(SCREEN_HEIGHT, TILE_HEIGHT, down, y);
-        if (SCREEN_WIDTH..2 * SCREEN_WIDTH).contains(&from_x)
-            && (SCREEN_HEIGHT..2 * SCREEN_HEIGHT).contains(&from_y)
-        {
+        if is_inside(SCREEN_WIDTH, from_x) && is_inside(SCREEN_HEIGHT, from_y) {
             self.get(from_x - SCREEN_WIDTH, from_y - SCREEN_HEIGHT)
         } else {
             colour
@@ -218,4 +208,12 @@ fn source(size: usize, step: usize, direction: u8, x: usize) -> usize
         2 => x + size + step,
         _ => x + size,
     }
+}
+
+// Whether a source is inside the memory in that direction.
+fn is_inside(size: usize, from: usize) -> bool
+    requires { size ≤ screen_width }
+    ensures { result ≡ is_inside size from }
+{
+    (size..2 * size).contains(&from)
 }
