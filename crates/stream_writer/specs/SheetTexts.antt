@@ -1,9 +1,9 @@
 -- The texts of a cue sheet.
-use Rattle.std.specs.Prelude.{ℕ, ◌+◌, ◌-◌, List, [], length, map, replicate, unwrap_or, ◌==◌, if◌then◌else◌}
+use Rattle.std.specs.Prelude.{◌≡◌, ℕ, All, ◌+◌, ◌-◌, List, [], length, map, replicate, unwrap_or, ◌==◌, if◌then◌else◌}
 use Rattle.bit_lists.specs.Counting.{below}
 use Rattle.cue_sheet.specs.CueSheet.{CueSheet, track_of, text_at}
 use Rattle.cue_sheet.specs.declared.fault.CueText.TheVariants.{Title, Performer, Songwriter}
-use Rattle.cdtext_packs.specs.Texts.{Texts, unless_empty}
+use Rattle.cdtext_packs.specs.Texts.{IsString, Texts, unless_empty}
 use Rattle.cdtext_packs.specs.declared.kinds.TextKind.{TextKind}
 use Rattle.cdtext_packs.specs.declared.kinds.TextKind.TheVariants as kind
 
@@ -25,6 +25,12 @@ string_at kind.Composer sheet place = []
 string_at kind.Arranger sheet place = []
 string_at kind.Message sheet place = []
 string_at kind.Code sheet place = code_at sheet place
+
+-- These are the strings of a kind for the album and each track.
+pub record AreStringsOf (sheet : CueSheet) (kind : TextKind) (strings : List (List ℕ)) : Type 0 where
+  pub strings_are : strings ≡ for_each sheet (string_at kind sheet)
+  pub count_is : length strings ≡ length sheet.tracks + 1
+  pub each : All IsString strings
 
 -- the texts of a sheet, maybe with only empty strings
 abbrev pub sheet_texts : CueSheet → Texts

@@ -1,8 +1,7 @@
 // The texts of a cue sheet, their packs, and whether a lead-in has room for them.
-ghost use Rattle.std.specs.Prelude.{◌≡◌, ◌+◌, ◌≤◌, length, IfOk, All, ◌<◌, [], IsOkAnd, ◌-◌, ◌/◌, ◌==◌, IfErr, OnOk, if◌then◌else◌};
+ghost use Rattle.std.specs.Prelude.{◌≡◌, ◌+◌, ◌≤◌, ◌++◌, ◌∷◌, length, IfOk, ◌<◌, [], IsOkAnd, ◌-◌, ◌/◌, ◌==◌, IfErr, OnOk, if◌then◌else◌};
 ghost use Rattle.cue_sheet.specs.CueSheet.{IsSheet};
-ghost use Rattle.cdtext_packs.specs.Texts.{IsString};
-ghost use Rattle.stream_writer.specs.SheetTexts.{for_each, string_at, texts_of_sheet};
+ghost use Rattle.stream_writer.specs.SheetTexts.{AreStringsOf, code_at, for_each, string_at, texts_of_sheet};
 ghost use Rattle.stream_writer.specs.Needs.{text_packs, HasRoom};
 ghost use Rattle.cdtext_packs.specs.Packs.{text_bytes};
 ghost use Rattle.cdtext_packs.specs.Writing.{pack_count, packs_of};
@@ -18,25 +17,44 @@ use toc_model::toc_need;
 pub fn texts_of_sheet(alloc: Global, sheet: &Sheet) -> Result<TextMap, AllocError>
     ensures { IfOk result (λ map. map ≡ texts_of_sheet sheet.now) }
 {
-    let titles = sheet_strings(alloc, sheet, TextKind::Title)?;
-    let performers = sheet_strings(alloc, sheet, TextKind::Performer)?;
-    let songwriters = sheet_strings(alloc, sheet, TextKind::Songwriter)?;
-    let codes = sheet_strings(alloc, sheet, TextKind::Code)?;
+    let (titles, performers) = strings_of_two(alloc, sheet, TextKind::Title, TextKind::Performer)?;
+    let (songwriters, codes) = strings_of_two(alloc, sheet, TextKind::Songwriter, TextKind::Code)?;
     TextMap::of_strings(alloc, sheet.first(), titles, performers, songwriters, codes)
+}
+
+// The strings of two kinds for the album and each track.
+fn strings_of_two(
+    alloc: Global,
+    sheet: &Sheet,
+    one: TextKind,
+    other: TextKind,
+) -> Result<(Strings, Strings), AllocError>
+    ensures strings { IfOk result
+        (λ two. AreStringsOf sheet.now one two.0 × AreStringsOf sheet.now other two.1) }
+    ensures sheet { IsSheet sheet.now }
+{
+    let first = sheet_strings(alloc, sheet, one)?;
+    let second = sheet_strings(alloc, sheet, other)?;
+    Ok((first, second))
 }
 
 // The strings of a kind for the album and each track.
 fn sheet_strings(alloc: Global, sheet: &Sheet, kind: TextKind) -> Result<Strings, AllocError>
-    ensures strings { IfOk result (λ strings. strings ≡ for_each sheet.now (string_at kind sheet.now)) }
-    ensures count { IfOk result (λ strings. length strings ≡ length sheet.now.tracks + 1) }
-    ensures each { IfOk result (All IsString) }
+    ensures strings { IfOk result (AreStringsOf sheet.now kind) }
     ensures sheet { IsSheet sheet.now }
 {
     let mut strings = Strings::new(alloc);
     for place in 0..sheet.tracks() + 1 {
-        strings.push(string_at(sheet, kind, place).to_vec(alloc)?)?;
+        push_copy(alloc, &mut strings, string_at(sheet, kind, place))?;
     }
     Ok(strings)
+}
+
+// Appends a copy of a string.
+fn push_copy(alloc: Global, strings: &mut Strings, string: &[u8]) -> Result<(), AllocError>
+    ensures { OnOk result (strings.new ≡ strings.old ++ string.now ∷ []) }
+{
+    strings.push(string.to_vec(alloc)?)
 }
 
 // The string of a kind for the album or a track, empty if there is none.
@@ -44,13 +62,24 @@ fn string_at(sheet: &Sheet, kind: TextKind, place: usize) -> &[u8]
     requires { place ≤ length sheet.now.tracks }
     ensures { result.now ≡ string_at kind sheet.now place }
 {
-    let code = match kind {
-        TextKind::Title => return sheet.text(CueText::Title, place),
-        TextKind::Performer => return sheet.text(CueText::Performer, place),
-        TextKind::Songwriter => return sheet.text(CueText::Songwriter, place),
-        TextKind::Composer | TextKind::Arranger | TextKind::Message => None,
-        TextKind::Code if place == 0 => sheet.catalogue(),
-        TextKind::Code => sheet.isrc(place - 1),
+    match kind {
+        TextKind::Title => sheet.text(CueText::Title, place),
+        TextKind::Performer => sheet.text(CueText::Performer, place),
+        TextKind::Songwriter => sheet.text(CueText::Songwriter, place),
+        TextKind::Composer | TextKind::Arranger | TextKind::Message => &[],
+        TextKind::Code => code_at(sheet, place),
+    }
+}
+
+// The catalogue number for the album, or the ISRC of a track, empty if there is none.
+fn code_at(sheet: &Sheet, place: usize) -> &[u8]
+    requires { place ≤ length sheet.now.tracks }
+    ensures { result.now ≡ code_at sheet.now place }
+{
+    let code = if place == 0 {
+        sheet.catalogue()
+    } else {
+        sheet.isrc(place - 1)
     };
     match code {
         Some(code) => code,
@@ -67,6 +96,13 @@ pub fn pack_texts(alloc: Global, sheet: &Sheet, lead_in: u32) -> Result<Vec<Text
     if lead_in == 0 {
         return Ok(Vec::new(alloc));
     }
+    packs_of_sheet(alloc, sheet)
+}
+
+// The packs of the texts of a sheet.
+fn packs_of_sheet(alloc: Global, sheet: &Sheet) -> Result<Vec<TextPack>, AllocError>
+    ensures { IfOk result (λ packs. packs.items ≡ text_packs sheet.now) }
+{
     let map = texts_of_sheet(alloc, sheet)?;
     pack_few(alloc, &map)
 }

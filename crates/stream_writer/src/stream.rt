@@ -208,6 +208,5 @@ pub fn write_stream<P: PackSource, K: Sink>(
 {
     spread_carries();
     put_lead_in(layout, texts, lead_in, out)?;
-    put_program(layout, source, spread, out)?;
-    Ok(())
+    put_program(layout, source, spread, out)
 }
