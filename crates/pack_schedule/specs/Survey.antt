@@ -1,7 +1,7 @@
 -- The start, the preset and the length of the change of each picture.
 use Rattle.std.specs.Prelude.{◌≡◌, ℕ, ◌-◌, ◌<◌, ◌≤◌, ⊤, List, [], length, slice_index_or, None, vec_capacity, vec_len}
 use Rattle.picture_script.specs.Script.{Drawing, pictures, hold_time}
-use Rattle.picture_script.specs.Board.{IsBlank}
+use Rattle.picture_script.specs.Board.{Board, IsBlank}
 use Rattle.pack_schedule.specs.Schedule.{start_of, IsInTime, IsLate}
 use Rattle.pack_schedule.specs.PlannedChange.{chosen_start, planned_change}
 use Rattle.pack_schedule.specs.declared.surveys.SurveyRoom.{SurveyRoom}
@@ -37,10 +37,14 @@ IsWithin script blocks = (k : ℕ) → k < pictures script → hold_time script 
 abbrev pub IsPastEnd : List Drawing → ℕ → Type 0
 IsPastEnd script blocks = (0 < pictures script) × (blocks < hold_time script (pictures script - 1))
 
+-- Nothing is drawn on the canvas.
+abbrev pub IsUndrawn : Board → Type 0
+IsUndrawn board = IsBlank board × (board.at ≡ None)
+
 -- The memory is enough for a survey of this many pictures. Its canvases are empty, and it has no planned change yet.
 pub record IsRoomFor (count : ℕ) (room : SurveyRoom) : Type 0 where
-  pub before : IsBlank room.before × (room.before.at ≡ None)
-  pub now : IsBlank room.now × (room.now.at ≡ None)
+  pub before : IsUndrawn room.before
+  pub now : IsUndrawn room.now
   pub none : (room.planned.items ≡ []) × (vec_len room.planned ≡ 0)
   pub fits : count ≤ vec_capacity room.planned
 

@@ -13,7 +13,7 @@ use crate::change::{NOT_WEIGHED, Weighed};
 use crate::needs_are_fewest;
 use crate::stops::Stop;
 use crate::surveys::{
-    Survey, SurveyRoom, free_packs, is_in_time, is_past_end, plan_picture, survey_in,
+    Survey, SurveyRoom, free_packs, is_in_time, is_past_end, plan_picture, survey_in, two_canvases,
 };
 use cdg_instructions::WINDOW_TILES;
 use picture_script::{Canvas, Script};
@@ -68,8 +68,7 @@ impl<'a> Planner<'a> {
         ensures script { IfOk result (λ p. p.script ≡ script.now) }
         ensures given { IfOk result (λ p. p.given ≡ 0) }
     {
-        let before = Canvas::start(alloc)?;
-        let now = Canvas::start(alloc)?;
+        let (before, now) = two_canvases(alloc)?;
         Ok(Planner {
             script,
             before,

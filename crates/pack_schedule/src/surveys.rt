@@ -1,5 +1,5 @@
 // When the change of each picture of a script is sent, and which picture is the first late one.
-ghost use Rattle.std.specs.Prelude.{◌≡◌, ◌<◌, ◌≤◌, ◌+◌, ◌-◌, ◌*◌, ℕ, length, slice_index_or, IfOk, IfErr, IsTrue, ◌↔◌, nat_le};
+ghost use Rattle.std.specs.Prelude.{◌≡◌, ◌<◌, ◌≤◌, ◌+◌, ◌-◌, ◌*◌, ℕ, length, slice_index_or, IfOk, IfErr, OnOk, IsTrue, ◌↔◌, nat_le};
 ghost use Rattle.disc_time.specs.Counts.{time_count};
 ghost use Rattle.raw_subcode.specs.Sizes.{slots_a_block};
 ghost use Rattle.picture_script.specs.Script.{pictures, ready_time};
@@ -7,8 +7,8 @@ ghost use Rattle.picture_script.specs.Board.{IsPicture};
 ghost use Rattle.pack_schedule.specs.Schedule.{start_of, free_packs, IsInTime};
 ghost use Rattle.pack_schedule.specs.Change.{most_change};
 ghost use Rattle.pack_schedule.specs.PlannedChange.{chosen_start, planned_change};
-ghost use Rattle.pack_schedule.specs.Survey.{nothing_planned, IsRoomFor, IsLatePicture, IsPlanned, IsSurvey, IsWithin, IsPastEnd};
-ghost use Rattle.pack_schedule.specs.Weaving.{Stands};
+ghost use Rattle.pack_schedule.specs.Survey.{nothing_planned, IsRoomFor, IsLatePicture, IsSurvey, IsUndrawn, IsWithin, IsPastEnd};
+ghost use Rattle.pack_schedule.specs.Weaving.{IsRoomAt};
 ghost use Rattle.pack_schedule.specs.Weights.{AreWeights};
 ghost use Rattle.rw_interleave.specs.Interleave.{packs_kept_back};
 
@@ -99,62 +99,76 @@ pub fn is_past_end(script: &Script, blocks: u32) -> bool
 /// # Errors
 ///
 /// The first late picture.
-pub fn survey_in(room: SurveyRoom, script: &Script, blocks: u32) -> Result<Survey, LatePicture>
+pub fn survey_in(mut room: SurveyRoom, script: &Script, blocks: u32) -> Result<Survey, LatePicture>
     requires end { ¬ IsPastEnd script.now blocks }
     requires room { IsRoomFor (pictures script.now) room }
     ensures within { IsWithin script.now blocks }
     ensures planned { IfOk result (IsSurvey script.now) }
     ensures late { IfErr result (IsLatePicture script.now) }
 {
-    // Laws: the times of pictures rise, so no picture is held past the end, and a late picture needs the reported packs.
+    // A law: the times of pictures rise, so no picture is held past the end.
     script.times_rise_and_colours_are_in_range();
-    needs_are_fewest();
-    let SurveyRoom {
-        mut before,
-        mut now,
-        mut planned,
-    } = room;
-    let pictures = script.pictures();
-    let mut weights = [NOT_WEIGHED; WINDOW_TILES];
-    for k in 0..pictures {
-        let change = plan_in_time(script, k, &before, &mut now, &mut weights)?;
-        planned.push_reserved(change);
-        before.draw_like(script, k, &now);
-    }
-    Ok(Survey { planned })
+    room.plan_pictures(script)?;
+    Ok(room.into_survey())
 }
 
-// The planned change of picture `k`, if it is in time. The picture is drawn on `now`.
-fn plan_in_time(
-    script: &Script,
-    k: u32,
-    before: &Canvas,
-    now: &mut Canvas,
-    weights: &mut [Weighed; WINDOW_TILES],
-) -> Result<PlannedChange, LatePicture>
-    requires picture { k < pictures script.now }
-    requires before { 0 < k → IsPicture script.now (k - 1) before.now }
-    requires now { Stands script.now k now.old }
-    requires weights { 0 < k → AreWeights script.now (k - 1) weights.old }
-    ensures planned { IfOk result (IsPlanned script.now k) }
-    ensures late { IfErr result (λ late. (late ≡ record {
-      picture = k;
-      need = length (planned_change script.now k);
-      free = free_packs script.now k;
-    }) × (¬ IsInTime script.now k (length (planned_change script.now k)))) }
-    ensures now { Stands script.now (k + 1) now.new }
-    ensures weights { AreWeights script.now k weights.new }
-{
-    now.draw_until(script, k);
-    let change = plan_picture(script, k, before, now, weights);
-    if !is_in_time(script, k, change.start, change.need) {
-        return Err(LatePicture {
-            picture: k,
-            need: change.need,
-            free: free_packs(script, k, change.start),
-        });
+impl SurveyRoom {
+    fn into_survey(self) -> Survey
+        ensures { result ≡ self.planned.items }
+    {
+        Survey {
+            planned: self.planned,
+        }
     }
-    Ok(change)
+
+    // Plans the changes of all pictures up to the first late one.
+    fn plan_pictures(&mut self, script: &Script) -> Result<(), LatePicture>
+        requires { IsRoomAt script.now 0 self.old }
+        ensures planned { OnOk result (IsSurvey script.now self.new.planned.items) }
+        ensures late { IfErr result (IsLatePicture script.now) }
+    {
+        // Laws: a late picture needs the reported packs.
+        script.times_rise_and_colours_are_in_range();
+        needs_are_fewest();
+        let pictures = script.pictures();
+        let mut weights = [NOT_WEIGHED; WINDOW_TILES];
+        for k in 0..pictures {
+            self.plan_next(script, k, &mut weights)?;
+        }
+        Ok(())
+    }
+
+    // Plans the change of picture `k`. If it is in time, the plan is kept, and both canvases have the picture.
+    fn plan_next(
+        &mut self,
+        script: &Script,
+        k: u32,
+        weights: &mut [Weighed; WINDOW_TILES],
+    ) -> Result<(), LatePicture>
+        requires picture { k < pictures script.now }
+        requires room { IsRoomAt script.now k self.old }
+        requires weights { 0 < k → AreWeights script.now (k - 1) weights.old }
+        ensures room { OnOk result (IsRoomAt script.now (k + 1) self.new) }
+        ensures late { IfErr result (λ late. (late ≡ record {
+          picture = k;
+          need = length (planned_change script.now k);
+          free = free_packs script.now k;
+        }) × (¬ IsInTime script.now k (length (planned_change script.now k)))) }
+        ensures weights { AreWeights script.now k weights.new }
+    {
+        self.now.draw_until(script, k);
+        let change = plan_picture(script, k, &self.before, &self.now, weights);
+        if !is_in_time(script, k, change.start, change.need) {
+            return Err(LatePicture {
+                picture: k,
+                need: change.need,
+                free: free_packs(script, k, change.start),
+            });
+        }
+        self.planned.push_reserved(change);
+        self.before.draw_like(script, k, &self.now);
+        Ok(())
+    }
 }
 
 /// The planned change of picture `k`. This picture is on `now`, the previous one on `before`.
@@ -205,12 +219,23 @@ impl SurveyRoom {
     pub fn start(alloc: Global, pictures: u32) -> Result<SurveyRoom, AllocError>
         ensures { IfOk result (IsRoomFor pictures) }
     {
+        let (before, now) = two_canvases(alloc)?;
+        let planned = Vec::with_capacity(alloc, pictures as usize)?;
         Ok(SurveyRoom {
-            before: Canvas::start(alloc)?,
-            now: Canvas::start(alloc)?,
-            planned: Vec::with_capacity(alloc, pictures as usize)?,
+            before,
+            now,
+            planned,
         })
     }
+}
+
+/// Two canvases on which nothing is drawn.
+pub(crate) fn two_canvases(alloc: Global) -> Result<(Canvas, Canvas), AllocError>
+    ensures { IfOk result (λ two. IsUndrawn two.0 × IsUndrawn two.1) }
+{
+    let first = Canvas::start(alloc)?;
+    let second = Canvas::start(alloc)?;
+    Ok((first, second))
 }
 
 /// Whether `need` packs from a start on are complete at the ready time of picture `k`.

@@ -4,7 +4,7 @@ ghost use Rattle.picture_script.specs.Board.{StandsBefore};
 ghost use Rattle.picture_script.specs.Script.{pictures};
 
 use crate::change::ChangeList;
-use crate::surveys::Survey;
+use crate::surveys::{Survey, two_canvases};
 use crate::{changes_can_be_written, planned_changes_are_changes};
 use cdg_instructions::write;
 use picture_script::{Canvas, Script};
@@ -45,11 +45,13 @@ impl ChangeAtHand {
         requires { IsSurvey script.now survey }
         ensures { IfOk result (λ at_hand. IsWeaving script.now at_hand 0) }
     {
+        let (before, now) = two_canvases(alloc)?;
+        let change = ChangeList::start(alloc)?;
         let mut at_hand = ChangeAtHand {
             survey,
-            before: Canvas::start(alloc)?,
-            now: Canvas::start(alloc)?,
-            change: ChangeList::start(alloc)?,
+            before,
+            now,
+            change,
             k: 0,
             start: u32::MAX,
         };

@@ -9,21 +9,20 @@ use Rattle.pack_schedule.proofs.weaver.ChangeAtHand.start.Goals.{then-pictures-g
 
 pub prepare-requires-clause-before : goal.prepare-requires-clause-before
 prepare-requires-clause-before c =
-    stands_blank c.args.script.now 0 c.in_ok-start.field-0 c.in_ok-start.ensures.blank
-    c.in_ok-start.ensures.at
+    let blank = c.in_ok-before.ensures.0 in
+    stands_blank c.args.script.now 0 c.in_ok-before.before blank.0 blank.1
 
 pub prepare-requires-clause-now : goal.prepare-requires-clause-now
 prepare-requires-clause-now c =
-    stands_blank c.args.script.now 0 c.in_ok-start-2.field-0 c.in_ok-start-2.ensures.blank
-    c.in_ok-start-2.ensures.at
+    let blank = c.in_ok-before.ensures.1 in
+    stands_blank c.args.script.now 0 c.in_ok-before.now blank.0 blank.1
 
 pub returns : goal.returns
 returns c =
     let script = c.args.script.now in
-    let before =
-    stands_blank script 0 c.in_ok-start.field-0 c.in_ok-start.ensures.blank c.in_ok-start.ensures.at in
-    let now =
-    stands_blank script 0 c.in_ok-start-2.field-0 c.in_ok-start-2.ensures.blank c.in_ok-start-2.ensures.at in
+    let blank = c.in_ok-before.ensures in
+    let before = stands_blank script 0 c.in_ok-before.before blank.0.0 blank.0.1 in
+    let now = stands_blank script 0 c.in_ok-before.now blank.1.0 blank.1.1 in
     elim c.if-pictures-gt0.branch [
       | then-pictures-gt0 w ↦
           let made = w.prepare.ensures in
