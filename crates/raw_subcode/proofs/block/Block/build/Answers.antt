@@ -29,9 +29,9 @@ loop-k-preserved c =
     let eight = c.built-eight.result in
     let eight_size : length eight ≡ 8 = search rules in
     let put : (Holds : ℕ → ℕ → Type 0) → ((n : ℕ) → n < 96 → n / 8 < k → Holds n (slice_index bytes n))
-        → ((j : ℕ) → j < 8 → Holds (8 * k + j) (slice_index eight j))
-        → (n : ℕ) → n < 96 → n / 8 < k + 1
-        → Holds n (slice_index (put_mid (8 * k) (8 * k + 8 - 8 * k) bytes c.copy_from_slice.new.self) n) =
+    → ((j : ℕ) → j < 8 → Holds (8 * k + j) (slice_index eight j))
+    → (n : ℕ) → n < 96 → n / 8 < k + 1
+    → Holds n (slice_index (put_mid (8 * k) (8 * k + 8 - 8 * k) bytes c.copy_from_slice.new.self) n) =
     λ Holds.
     eight_put Holds bytes _ eight k _ c.loop-k-test.true before.size eight_size (omega arith)
     c.copy_from_slice.ensures.after in
