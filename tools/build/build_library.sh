@@ -5,7 +5,7 @@
 # TARGET is another system; its library is written to a separate folder in lib/ (tools/build/build_target.sh). CPU is the
 # oldest processor that the library must run on: x86-64, or a newer one (rt lib --help lists them). CC is the C compiler
 # that links the library. With OVER_GATE=1 the library is built over the crates that `rt ci` has just proved, if all are
-# there, so no crate below it is proved again. Then lib/modules has its LLVM module, the source for other systems.
+# there, so no crate below it is proved again. lib/modules has its LLVM module, the source for other systems.
 set -e
 cd "$(dirname "$0")/../.."
 host=x86_64-unknown-linux-gnu
@@ -17,12 +17,12 @@ for tool in "$compiler" ld objcopy ar; do
     command -v "$tool" >/dev/null || { echo "build_library: there is no $tool" >&2; exit 1; }
 done
 mkdir -p lib/modules
-if [ -z "$OVER_GATE" ] || ! tools/build/build_over_gate.py ribjasper_c --cpu "$cpu" --module "$module.new" \
-    ${JOBS:+--jobs "$JOBS"}; then
-    rm -f "$module.new"
+build() { tools/build/build_crate.py ribjasper_c --cpu "$cpu" --module "$module.new" ${JOBS:+--jobs "$JOBS"} "$@"; }
+if [ -z "$OVER_GATE" ] || ! build --gate; then
     tools/build/prove_crates.py ribjasper_c
-    (cd crates/ribjasper_c && rt lib --cpu "$cpu" ${JOBS:+--jobs "$JOBS"})
-elif [ "$cpu" = x86-64 ]; then
+    build
+fi
+if [ "$cpu" = x86-64 ]; then
     chmod 644 "$module.new"
     mv "$module.new" "$module"
 fi

@@ -9,12 +9,10 @@ if [ -f "$module" ] && [ -z "$(find crates/*/src crates/*/specs crates.txt -newe
     exit 0
 fi
 mkdir -p lib/modules
-build() {
-    tools/build/build_over_gate.py "$crate" --cpu x86-64 --kept --module "$module.new" ${JOBS:+--jobs "$JOBS"}
-}
+build() { tools/build/build_crate.py "$crate" --cpu x86-64 --module "$module.new" ${JOBS:+--jobs "$JOBS"} "$@"; }
+# The libraries of the gate are used if all are there and current (otherwise the status is 3).
 status=0
-build || status=$?
-# Status 3: some crates below this one are not proved yet.
+build --gate || status=$?
 if [ "$status" = 3 ]; then
     tools/build/prove_crates.py "$crate"
     build

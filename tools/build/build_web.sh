@@ -8,9 +8,10 @@ cd "$(dirname "$0")/../.."
 target=wasm64-unknown-unknown
 command -v wasm-ld-14 >/dev/null || command -v wasm-ld >/dev/null ||
     { echo "build_web: there is no wasm-ld (Debian: lld)" >&2; exit 1; }
-if [ -z "$OVER_GATE" ] || ! tools/build/build_over_gate.py ribjasper_web --target "$target" ${JOBS:+--jobs "$JOBS"}; then
+build() { tools/build/build_crate.py ribjasper_web --target "$target" ${JOBS:+--jobs "$JOBS"} "$@"; }
+if [ -z "$OVER_GATE" ] || ! build --gate; then
     tools/build/prove_crates.py ribjasper_web
-    (cd crates/ribjasper_web && rt lib --target "$target" ${JOBS:+--jobs "$JOBS"})
+    build
 fi
 
 kit=$(dirname "$(readlink -f "$(command -v rt)")")

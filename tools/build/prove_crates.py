@@ -1,8 +1,9 @@
 #!/usr/bin/env python3
 """Proves the libraries below crates, independent ones in parallel: prove_crates.py CRATE ..
 
-The script first prints an estimate of the time, and then each library when it is proved. Proofs are stored in crates/*/out, so
-a call continues where a stopped call ended. `rt run` of the crates verifies everything again, so nobody has to trust this script.
+The script first prints an estimate of the time, and then each library when it is proved. build_crate.py proves the libraries and
+stores them in crates/*/out/statements, so a call continues where a stopped call ended. A crate that changed and all crates above
+it are proved from nothing. `make check` proves everything with `rt ci`, which does not use these libraries.
 
 seconds.tsv has the processor seconds of each crate. The crate with the longest chain of crates above it is proved first. --write
 updates the table; it is for a run after `make clean`."""
@@ -13,7 +14,6 @@ import fcntl
 import hashlib
 import os
 import pathlib
-import shutil
 import site
 import subprocess
 import sys
@@ -23,6 +23,8 @@ from typing import IO
 
 ROOT = pathlib.Path(__file__).resolve().parents[2]
 site.addsitedir(str(ROOT / "tools" / "shared"))
+site.addsitedir(str(ROOT / "tools" / "build"))
+from build_crate import library  # noqa: E402
 from rattle import graph as graph  # noqa: E402
 
 # The measured processor seconds of each crate.
@@ -70,10 +72,24 @@ def stamps(names: list[str], below: dict[str, list[str]]) -> dict[str, str]:
     return stamp
 
 
+def stamp_file(name: str) -> pathlib.Path:
+    """The file with the stamp of the last proof of a crate."""
+    return library(name).with_name("stamp")
+
+
 def stored_stamp(name: str) -> str:
     """The stamp of the last proof of a crate, or an empty text."""
-    file = ROOT / "crates" / name / "out" / "proved"
+    file = stamp_file(name)
     return file.read_text() if file.exists() else ""
+
+
+def proved(names: list[str], below: dict[str, list[str]], stamp: dict[str, str]) -> set[str]:
+    """The crates whose libraries are current. A library is used only over the libraries that it was built over."""
+    done: set[str] = set()
+    for name in names:
+        if stored_stamp(name) == stamp[name] and done.issuperset(below[name]):
+            done.add(name)
+    return done
 
 
 def read_table(file: pathlib.Path) -> dict[str, float]:
@@ -103,56 +119,6 @@ def duration(seconds: float) -> str:
     return f"{seconds:.0f} seconds" if seconds < 100 else f"{seconds / 60:.0f} minutes"
 
 
-def all_below(name: str, below: dict[str, list[str]]) -> set[str]:
-    """A crate and all crates of the repository below it."""
-    return {name}.union(*(all_below(it, below) for it in below[name]))
-
-
-def linked_copy(name: str, below: dict[str, list[str]]) -> pathlib.Path:
-    """Copies a crate and the crates below it, by hard links. Returns the folder of the copy.
-
-    `rt` locks the crates that it uses, so two proofs over the same library would wait for each other in one folder."""
-    copy = ROOT / "crates" / name / "out" / "room"
-    if (copy / "crates" / name / "out").is_dir():
-        move_results(name, copy)  # an earlier call was stopped
-    shutil.rmtree(copy, ignore_errors=True)
-    (copy / "crates").mkdir(parents=True)
-    shutil.copy2(ROOT / "HANDLES", copy)
-    inside = all_below(name, below)
-    lines = (ROOT / "crates.txt").read_text().splitlines(keepends=True)
-    (copy / "crates.txt").write_text("".join(it for it in lines if it.split(":")[0].split(" ")[0] in inside))
-    for it in inside:
-        copy_crate(ROOT / "crates" / it, copy / "crates" / it)
-    return copy
-
-
-def copy_crate(crate: pathlib.Path, place: pathlib.Path) -> None:
-    """Copies a crate by hard links, except the folder `out/room` with its own copy. Other folders may be called room too."""
-
-    def skipped(folder: str, names: list[str]) -> set[str]:
-        return {"room"}.intersection(names) if pathlib.Path(folder) == crate / "out" else set()
-
-    shutil.copytree(crate, place, ignore=skipped, copy_function=link_or_copy)
-
-
-def link_or_copy(old: str, new: str) -> None:
-    try:
-        os.link(old, new)
-    except OSError:
-        shutil.copy2(old, new)
-
-
-def move_results(name: str, copy: pathlib.Path) -> None:
-    """Moves the results of a proof from the copy of a crate to the crate, and removes the copy."""
-    here = ROOT / "crates" / name / "out"
-    for result in (copy / "crates" / name / "out").iterdir():
-        place = here / result.name
-        if place.is_dir():
-            shutil.rmtree(place)
-        os.replace(result, place)
-    shutil.rmtree(copy, ignore_errors=True)
-
-
 class Proving:
     """The state of a run: the crates that are proved, that remain, and that are being proved. `names` has the lowest first."""
 
@@ -160,7 +126,7 @@ class Proving:
         self, names: list[str], below: dict[str, list[str]], stamp: dict[str, str], parallel: int
     ) -> None:
         self.below, self.stamp, self.parallel = below, stamp, parallel
-        self.done = {it for it in names if stored_stamp(it) == stamp[it]}
+        self.done = proved(names, below, stamp)
         self.left = [it for it in names if it not in self.done]
         table = read_table(TABLE)
         self.cost = {it: table.get(it) or seconds_by_lines(it) for it in self.left}
@@ -190,22 +156,24 @@ class Proving:
         estimate = max(sum(self.cost[it] for it in rest) / self.parallel, max((self.chain[it] for it in rest), default=0))
         return estimate * self.pace()
 
-    def jobs(self, ready: int) -> int:
-        """The number of processors for the next crate: those that no running or ready crate waits for."""
+    def jobs(self, name: str, ready: int) -> int:
+        """The number of processors for the next crate.
+
+        It gets those that no other ready crate needs. If its chain would end long after the rest of the work, it gets more."""
         free = self.parallel - sum(self.used.values())
-        return max(1, free - (ready - 1))
+        rest = sum(self.cost[it] for it in [*self.left, *self.running]) / self.parallel
+        return min(free, max(1, free - (ready - 1), int(self.chain[name] / rest)))
 
     def prove(self, name: str, jobs: int) -> None:
-        """Proves a crate with this number of processors and builds its library. Proofs of earlier runs are reused."""
-        folder = ROOT / "crates" / name
-        os.makedirs(folder / "out", exist_ok=True)
-        copy = linked_copy(name, self.below)
-        with open(folder / "out" / "proving.log", "w") as log:
-            status, used = run_measured(["rt", "lib", "--jobs", str(jobs)], copy / "crates" / name, log)
-            is_proved = not status
-        move_results(name, copy)
+        """Proves a crate with this number of processors and builds its library."""
+        folder = library(name).parent
+        os.makedirs(folder, exist_ok=True)
+        words = [sys.executable, str(ROOT / "tools" / "build" / "build_crate.py"), name, "--jobs", str(jobs)]
+        with open(folder / "proving.log", "w") as log:
+            status, used = run_measured(words, ROOT, log)
+        is_proved = not status
         if is_proved:
-            (folder / "out" / "proved").write_text(self.stamp[name])
+            stamp_file(name).write_text(self.stamp[name])
         with self.news:
             took = time.monotonic() - self.running.pop(name)
             del self.used[name]
@@ -217,7 +185,7 @@ class Proving:
                 print(f"[{len(self.done)}/{self.total}] {name} is proved ({duration(took)}); about {left} left", flush=True)
             else:
                 self.failed.append(name)
-                print(f"{name} is not proved; the reason is in crates/{name}/out/proving.log", flush=True)
+                print(f"{name} is not proved; the reason is in crates/{name}/out/statements/proving.log", flush=True)
             self.news.notify()
 
     def run(self) -> bool:
@@ -226,9 +194,10 @@ class Proving:
                 ready = [it for it in self.left if all(low in self.done for low in self.below[it])]
                 for place, name in enumerate(sorted(ready, key=lambda it: -self.chain[it])):
                     if sum(self.used.values()) < self.parallel and not self.failed:
+                        jobs = self.jobs(name, len(ready) - place)
                         self.left.remove(name)
                         self.running[name] = time.monotonic()
-                        self.used[name] = self.jobs(len(ready) - place)
+                        self.used[name] = jobs
                         threading.Thread(target=self.prove, args=(name, self.used[name]), daemon=True).start()
                 if not self.running:
                     break
@@ -253,7 +222,7 @@ def available() -> int:
 
 
 def lock_checkout() -> IO[bytes]:
-    """Locks the checkout until the returned file is closed, since two calls would use the same copies of crates."""
+    """Locks the checkout until the returned file is closed, since two calls would write the same libraries."""
     lock = open(__file__, "rb")
     try:
         fcntl.flock(lock, fcntl.LOCK_EX | fcntl.LOCK_NB)

@@ -1,5 +1,5 @@
 #!/usr/bin/env python3
-"""Tests of prove_crates.py: a crate is proved in a complete copy of itself and of the crates below it."""
+"""Tests of prove_crates.py: which crates are proved, in which order, and with how many processors."""
 import pathlib
 import subprocess
 import sys
@@ -10,30 +10,20 @@ import unittest.mock
 import prove_crates
 
 
-def files_below(folder: pathlib.Path) -> dict[pathlib.Path, bytes]:
-    """The contents of the files below a folder by relative path, without the results in `out`."""
-    found = (it.relative_to(folder) for it in folder.rglob("*") if it.is_file())
-    return {it: (folder / it).read_bytes() for it in found if it.parts[0] != "out"}
-
-
-class CopiesTest(unittest.TestCase):
-    def test_each_crate_is_copied_completely(self) -> None:
-        for name in prove_crates.graph():
-            with self.subTest(crate=name), tempfile.TemporaryDirectory(dir=prove_crates.ROOT) as folder:
-                crate, copy = prove_crates.ROOT / "crates" / name, pathlib.Path(folder) / name
-                prove_crates.copy_crate(crate, copy)
-                self.assertEqual(files_below(copy), files_below(crate))
-
-    def test_the_folder_room_in_out_is_not_copied(self) -> None:
-        with tempfile.TemporaryDirectory() as folder:
-            crate, copy = pathlib.Path(folder) / "crate", pathlib.Path(folder) / "copy"
-            for place in ("out/room/crates", "out/rlib", "proofs/room"):
-                (crate / place).mkdir(parents=True)
-                (crate / place / "file").write_text(place)
-            prove_crates.copy_crate(crate, copy)
-            self.assertFalse((copy / "out/room").exists())
-            self.assertTrue((copy / "out/rlib/file").exists())
-            self.assertTrue((copy / "proofs/room/file").exists())
+class ProvedTest(unittest.TestCase):
+    def test_a_library_is_current_only_over_current_libraries(self) -> None:
+        below: dict[str, list[str]] = {"low": [], "other": [], "middle": ["low"], "high": ["middle", "other"]}
+        stamp = dict.fromkeys(below, "new")
+        for stale, current in {
+            "": {"low", "other", "middle", "high"},
+            "low": {"other"},
+            "middle": {"low", "other"},
+            "other": {"low", "middle"},
+        }.items():
+            with self.subTest(stale=stale):
+                stored = {**stamp, stale: "old"}
+                with unittest.mock.patch.object(prove_crates, "stored_stamp", stored.__getitem__):
+                    self.assertEqual(prove_crates.proved(list(below), below, stamp), current)
 
 
 class LockTest(unittest.TestCase):
@@ -55,10 +45,6 @@ class OrderTest(unittest.TestCase):
         for place, name in enumerate(order):
             self.assertTrue(set(below[name]) <= set(order[:place]), name)
 
-    def test_all_below_has_the_crate_and_its_dependencies(self) -> None:
-        below: dict[str, list[str]] = {"low": [], "high": ["low"]}
-        self.assertEqual(prove_crates.all_below("high", below), {"low", "high"})
-
     def test_a_chain_costs_the_sum_of_its_crates(self) -> None:
         below: dict[str, list[str]] = {"slow": [], "low": [], "high": ["low"]}
         with tempfile.TemporaryDirectory() as folder:
@@ -67,6 +53,20 @@ class OrderTest(unittest.TestCase):
             with unittest.mock.patch.object(prove_crates, "TABLE", table):
                 proving = prove_crates.Proving(list(below), below, dict.fromkeys(below, "a stamp"), 1)
         self.assertEqual(proving.chain, {"slow": 60, "low": 70, "high": 50})
+
+    def test_a_crate_gets_free_processors_and_more_if_its_chain_is_long(self) -> None:
+        below: dict[str, list[str]] = {"low": [], "other": [], "third": [], "high": ["low"]}
+        for cost, ready, jobs in (
+            ({"low": 100, "other": 100, "third": 100, "high": 100}, 3, 2),
+            ({"low": 100, "other": 10, "third": 10, "high": 100}, 3, 3),
+            ({"low": 100, "other": 10, "third": 10, "high": 100}, 1, 4),
+            ({"low": 50, "other": 200, "third": 200, "high": 50}, 3, 2),
+            ({"low": 50, "other": 200, "third": 200, "high": 50}, 4, 1),
+        ):
+            with self.subTest(cost=cost, ready=ready):
+                with unittest.mock.patch.object(prove_crates, "read_table", lambda _file, table=cost: table):
+                    proving = prove_crates.Proving(list(below), below, dict.fromkeys(below, "a stamp"), 4)
+                self.assertEqual(proving.jobs("low", ready), jobs)
 
 
 class TableTest(unittest.TestCase):

@@ -1,7 +1,7 @@
 #!/usr/bin/env python3
 """Compiles the LLVM module of a proved crate for another system: translate.py MODULE TARGET OBJECT [--rename OLD=NEW ..]
 
-MODULE is the input of the kit's clang for Linux on x86-64 (build_over_gate.py --module). The script adds the heap of
+MODULE is the input of the kit's clang for Linux on x86-64 (build_crate.py --module). The script adds the heap of
 tools/build/heap.ll, and hides all functions except the calls of the library and `main`. The kit's clang has the code generators of
 every target. Calls keep the platform's C convention: no call passes or returns a struct by value, and numbers narrower than a
 register are read without their unused bits. This translation is not proved; tests compare its results."""

@@ -16,7 +16,7 @@ from pathlib import Path
 
 TOP = Path(__file__).resolve().parents[2]
 site.addsitedir(str(TOP / "tools" / "build"))
-from build_over_gate import NOT_PROVED  # noqa: E402
+from build_crate import NOT_PROVED  # noqa: E402
 
 # The limit in bytes. The compiler reports 412,272 bytes for the program.
 MOST = 450_000
@@ -33,7 +33,7 @@ def main() -> int:
     parser.add_argument("--most", type=int, default=MOST, help=f"the limit in bytes (default: {MOST})")
     most: int = parser.parse_args().most
     with tempfile.TemporaryDirectory(prefix="ribjasper-stack-") as folder:
-        build = [str(TOP / "tools" / "build" / "build_over_gate.py"), "ribjasper", "--program", f"{folder}/ribjasper"]
+        build = [str(TOP / "tools" / "build" / "build_crate.py"), "ribjasper", "--gate", "--program", f"{folder}/ribjasper"]
         ran = subprocess.run(build, capture_output=True, text=True)
     if ran.returncode == NOT_PROVED:
         print("check_stack: skipped, since the libraries of the gate are missing (make check)")

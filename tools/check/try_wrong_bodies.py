@@ -2,14 +2,14 @@
 """Tests that the checker refuses wrong bodies: try_wrong_bodies.py [--by-function] [--jobs N] [CRATE ..]
 
 The gate tries the edits of `must-fail/`. The edits of `wrong-bodies/` belong to crates with slow proofs, or are less
-important. This script tries all of them before a release, each over a copy of the proofs that `make`, `rt check` or `rt lib`
-stored for its crate, so one edit needs seconds instead of a whole proof. The kit's command decides whether an edit is refused. An
+important. This script tries all of them before a release, each over a copy of the proofs that `rt check` or `rt lib` stored
+for its crate, so one edit needs seconds instead of a whole proof. The kit's command decides whether an edit is refused. An
 edit that is not refused is tried again without stored proofs, and so is an edit of a crate without stored proofs. The exit
 status is 0 only if every edit is refused.
 
 With --by-function the script tries only the edits with a line `function: PATH`. It proves this function and the functions
-that it calls, over the libraries that the gate or `make` left: ten to forty seconds for each edit. `make check` does this
-right after the gate, which has proved the same functions without the edits."""
+that it calls, over the libraries that the gate left: ten to forty seconds for each edit. `make check` does this right after
+the gate, which has proved the same functions without the edits."""
 from __future__ import annotations
 
 import argparse

@@ -3,7 +3,7 @@
 Compares it with tools/check/way_of.tsv: way_of.py --check | --write
 
 Valgrind reports the crate, the module and the name of each function that ran, including functions that are called through a
-trait. PROGRAM must be built without inlining. Without --program, tools/build/build_over_gate.py builds it, right after the gate.
+trait. PROGRAM must be built without inlining. Without --program, tools/build/build_crate.py builds it, right after the gate.
 For each crate, the output has four numbers: the functions that ran, their lines with their clauses, their files, and the lines
 of these files. --files lists the files. The depth is the length of the longest chain of calls. Functions of the kit do not
 count, and neither do laws, which do nothing.
@@ -27,7 +27,7 @@ from typing import NamedTuple
 TOP = Path(__file__).resolve().parents[2]
 site.addsitedir(str(TOP / "tools" / "shared"))
 site.addsitedir(str(TOP / "tools" / "build"))
-from build_over_gate import NOT_PROVED  # noqa: E402
+from build_crate import NOT_PROVED, link  # noqa: E402
 from rattle import graph, items  # noqa: E402
 
 COUNTS_FILE = Path(__file__).resolve().with_suffix(".tsv")
@@ -249,28 +249,13 @@ def increases(found: dict[str, Counts]) -> list[str]:
     ]
 
 
-def link(program: Path, object_file: Path) -> None:
-    """Links the object file of a program with the kit's C library."""
-    kit = Path(shutil.which("rt") or "rt").resolve().parents[1]
-    words = [
-        "--target",
-        "x86_64-unknown-linux-gnu",
-        "--toolchain",
-        str(kit / "toolchain"),
-        "-o",
-        str(program),
-        str(object_file),
-    ]
-    libraries = [str(kit / "c" / name) for name in ("libos_c.a", "liblibc_c.a")]
-    subprocess.run([str(kit / "bin" / "rattle-link"), *words, *libraries], stderr=subprocess.DEVNULL, check=True)
-
-
 def build(folder: Path) -> Path | None:
     """Builds the program without inlining, over the libraries that the gate has proved. Returns None if they are missing."""
     program, object_file = folder / "ribjasper", folder / "ribjasper.o"
     words = [
-        str(TOP / "tools" / "build" / "build_over_gate.py"),
+        str(TOP / "tools" / "build" / "build_crate.py"),
         "ribjasper",
+        "--gate",
         "--program",
         str(object_file),
         "--opt-level",
