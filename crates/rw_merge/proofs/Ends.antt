@@ -36,7 +36,8 @@ module _ (n n' n'' m m' m'' : Count) (same : n' ≡ n) (same' : m' ≡ m) (base 
   pub ends_since : {A : Type 0} (result : Result A MergeStop)
       → EndsBoth result u v (from_to n' n'') (from_to m' m'')
       → EndsBoth result a b (from_to n n'') (from_to m m'')
-  ends_since (Ok done) (reported, reported') = (rose_once_since same reported, rose_once_since same' reported')
+  ends_since (Ok done) (reported, reported') =
+      (rose_once_since same reported, rose_once_since same' reported')
   ends_since (Err stop) ended = stop_since stop ended
 
 -- one more block was read

@@ -33,8 +33,9 @@ ReadsTo lead_in held put first second result =
 module _ {lead_in blocks : ℕ} {left left' other other' held held' : Option (List ℕ)}
     {w v : List (List ℕ)} {bad : ℕ} {xs ys : List ℕ} {n n' m m' k k' j j' : Count}
     (worked : Works lead_in blocks left left' other other' held held' w v bad xs ys)
-    (held'' : Option (List ℕ)) (kept : Keeps held' held'') (same : n' ≡ n) (same' : m' ≡ m) (rooms : RoseBy blocks k k')
-    (rooms' : RoseBy blocks j j') (left'' other'' : Option (List ℕ)) (n'' m'' k'' j'' : Count) where
+    (held'' : Option (List ℕ)) (kept : Keeps held' held'') (same : n' ≡ n) (same' : m' ≡ m)
+    (rooms : RoseBy blocks k k') (rooms' : RoseBy blocks j j')
+    (left'' other'' : Option (List ℕ)) (n'' m'' k'' j'' : Count) where
   works : Works lead_in blocks left left' other other' held held'' w v bad xs ys
   works = works_kept _ _ _ _ _ _ _ _ _ _ _ _ _ _ worked kept
 
