@@ -1,11 +1,13 @@
 -- The stops of a reader and of a pump differ.
-use Rattle.std.proofs.Common.{◌≡◌, ℕ, ◌+◌, ◌-◌, ◌<◌, ◌≤◌, List, ◌++◌, length, take, length-append, Result, Err, refl, arith, ◌∙◌}
+use Rattle.std.proofs.Common.{◌≡◌, ◌≢◌, ℕ, ◌+◌, ◌-◌, ◌<◌, ◌≤◌, min, List, ◌++◌, length, take, drop, length-append, Result, Ok, Err, refl, sym, ap, subst, arith, ◌∙◌}
 use Rattle.std.specs.declared.option.Option.{Option}
 use Rattle.std.proofs.KnownBytes.{Consumes-kept, Consumes-trans}
-use Rattle.std.proofs.lemmas.List.{length-take}
+use Rattle.std.proofs.lemmas.List.{length-drop, length-take, take-append-le}
+use Rattle.std.specs.Prelude.{IsErr}
 use Rattle.std.specs.Io.KnownBytes.{Consumes}
 use Rattle.cdg_io.specs.Moves.{ConsumesBelow}
-use Rattle.cdg_io.specs.Whole.{ConsumesExactly, ReadsWithin, StopsAtFault}
+use Rattle.cdg_io.specs.Whole.{ConsumesExactly, ReadsUpTo, ReadsWithin, StopsAtFault}
+use Rattle.cdg_io.specs.declared.ends.Source.{Ghosts as Source}
 use Rattle.cdg_io.specs.declared.whole.ReadStop.{ReadStop}
 use Rattle.cdg_io.specs.declared.whole.ReadStop.TheVariants.{Failed, NoMemory, TooLong as TextTooLong}
 use Rattle.cdg_io.specs.declared.pumping.PumpStop.{PumpStop}
@@ -107,3 +109,85 @@ pub rest_is_below : (limit len n : ℕ) (all rest : List ℕ) → length all ≡
     → length rest < limit - len - n + 2
     → length (all ++ rest) < limit + 2
 rest_is_below limit len n all rest count within room few = omega (arith, length-append all rest)
+
+-- ---- A chunk of 4096 bytes, of which a read was offered the first `n + 1`.
+
+pub none_below : {n : ℕ} → n ≡ 0 → n < 1
+none_below zero = omega (arith, zero)
+
+pub some_at_least : {n : ℕ} → n ≢ 0 → 1 ≤ n
+some_at_least some = omega (arith, some)
+
+pub offer_fits : (n room : ℕ) (chunk : List ℕ) → n ≡ min room 4095 → length chunk ≡ 4096
+    → n + 1 ≤ length chunk
+offer_fits n room chunk is size = omega arith
+
+pub offer_some : (n room : ℕ) (chunk : List ℕ) → n ≡ min room 4095 → length chunk ≡ 4096
+    → 0 < length (take (n + 1) chunk)
+offer_some n room chunk is size = omega (arith, length-take (n + 1) chunk)
+
+pub front_fits : (n : ℕ) (front rest : List ℕ) → n ≤ length front → n ≤ length (front ++ rest)
+front_fits n front rest fits = omega (arith, length-append front rest)
+
+pub refilled : (buf chunk : List ℕ) (n room : ℕ) → n ≡ min room 4095 → length chunk ≡ 4096
+    → length buf ≡ length (take (n + 1) chunk)
+    → length (buf ++ drop (n + 1) chunk) ≡ 4096
+refilled buf chunk n room is size same =
+    omega (arith, length-append buf (drop (n + 1) chunk), length-drop (n + 1) chunk, length-take (n + 1) chunk)
+
+-- the bytes that a read returned were appended to the earlier bytes
+pub read_kept : (a b c : Option (List ℕ)) (old new buf rest : List ℕ) (n : ℕ) → n ≤ length buf
+    → new ≡ old ++ take n (buf ++ rest) → Consumes a b old → Consumes b c (take n buf)
+    → Consumes a c new
+read_kept a b c old new buf rest n fits is before now =
+    subst (Consumes a c) (sym (is ∙ ap (λ (l : List ℕ). old ++ l) (take-append-le n buf rest fits)))
+    (Consumes-trans a b c old (take n buf) before now)
+
+-- and they fit within the limit
+pub grown_fits : (limit len new seen n : ℕ) (buf rest : List ℕ) → new ≡ len + length (take n (buf ++ rest))
+    → seen ≡ len → len ≤ limit → n ≤ limit - seen
+    → new ≤ limit
+grown_fits limit len new seen n buf rest is same within fits = omega (arith, length-take n (buf ++ rest))
+
+pub room_shrinks : (limit len new seen n : ℕ) (buf rest : List ℕ) → new ≡ len + length (take n (buf ++ rest))
+    → n ≤ length buf → seen ≡ len → len ≤ limit → n ≢ 0 → n ≤ limit - seen
+    → limit + 1 - new < limit + 1 - len
+room_shrinks limit len new seen n buf rest is all same within some fits =
+    omega (arith, length-take n (buf ++ rest), length-append buf rest)
+
+-- ---- A read of up to `room` bytes, and the size of a unit.
+
+pub read_of_size : {S E : Type 0} (source : Source S) (room size : ℕ) (before after : S) (r : Result ℕ E)
+    → ReadsUpTo source room before after r → room ≡ size
+    → ReadsUpTo source size before after r
+read_of_size source room size before after r read same =
+    subst (λ (n : ℕ). ReadsUpTo source n before after r) same read
+
+-- a whole unit was read
+pub read_full : {S E : Type 0} (source : Source S) (room size : ℕ) (before after : S) (n least count : ℕ)
+    → ReadsUpTo {E = E} source room before after (Ok n) → room ≡ size → least ≡ size → least ≤ n
+    → count ≡ size
+    → ReadsUpTo {E = E} source size before after (Ok count)
+read_full {S} {E} source room size before after n least count read same all fits is =
+    let within : n ≤ room = read.within in
+    let whole : n ≡ count = omega arith in
+    subst (λ (k : ℕ). ReadsUpTo {E = E} source size before after (Ok k)) whole
+    (read_of_size source room size before after (Ok n) read same)
+
+-- the read failed
+pub read_failed : {S E F : Type 0} (source : Source S) (room size : ℕ) (before after : S) (fault : F)
+    (r : Result ℕ E) → ReadsUpTo {E = F} source room before after (Err fault) → IsErr r → room ≡ size
+    → ReadsUpTo source size before after r
+read_failed source room size before after fault (Ok count) read err same = (cc)
+read_failed {S} {E} {F} source room size before after fault (Err other) read err same =
+    let sized = read_of_size {E = F} source room size before after (Err fault) read same in
+    record {
+      within = tt;
+      part = sized.part;
+      cut = sized.cut;
+      cause = record { later = sized.cause.later; failed = sized.cause.failed; same = tt };
+      counts = record {
+        end = record { ended = tt; goes_on = tt; failed = sized.counts.end.failed };
+        room = record { full = tt; short = tt; failed = sized.counts.room.failed };
+      };
+    }

@@ -1,5 +1,5 @@
-use Rattle.std.proofs.Common.{◌≡◌, ◌≤◌, ◌+◌, ◌-◌, ◌*◌, ◌/◌, ◌++◌, ℕ, min, take, drop, length, refl, rules, arith, ◌∙◌, ap}
-use Rattle.std.proofs.lemmas.List.{take_rest}
+use Rattle.std.proofs.Common.{◌≡◌, ◌≤◌, ◌+◌, ◌-◌, ◌*◌, ◌/◌, ◌++◌, ℕ, List, min, take, drop, length, length-take-le, refl, sym, rules, arith, ◌∙◌, ap}
+use Rattle.std.proofs.lemmas.List.{length-drop, length-take, take_rest}
 use Rattle.cdg_io.proofs.Changed.{row_passes, put_behind, stays_behind}
 use Rattle.std.proofs.Math.Nat.{mul_comm, mul-le-mul_right, div-mul-le_self}
 use Rattle.cdg_io.proofs.Idle.{units_fit}
@@ -15,6 +15,21 @@ size_fits unit count least row room most least_is count_is =
     let in_room : count ≤ room / unit = omega arith in (
       omega (arith, comm, mul-le-mul_right unit in_row, div-mul-le_self row unit),
       omega (arith, comm, mul-le-mul_right unit in_room, div-mul-le_self room unit),
+    )
+
+end_fits : (start size room : ℕ) → start ≤ room → size ≤ room - start → start + size ≤ room
+end_fits start size room within fits = omega arith
+
+-- the place in the buffer is as long as the units
+same_size : (start size : ℕ) (buffer row : List ℕ) → start ≤ length buffer → size ≤ length buffer - start
+    → size ≤ length row
+    → length (take (start + size - start) (drop start buffer)) ≡ length (take size row)
+same_size start size buffer row within room fits =
+    omega (
+      arith,
+      length-take (start + size - start) (drop start buffer),
+      length-drop start buffer,
+      length-take size row,
     )
 
 pub nonzero_div-room : goal.nonzero_div-room
@@ -77,3 +92,21 @@ returns-clause-behind g c =
     let long : length c.change_row.new.units ≡ size = search rules in
     stays_behind c.args.buffer.now c.change_row.new.units c.args.start size (c.args.start + size)
     c.requires.start refl long
+
+pub slice_bounds-place-end : goal.slice_bounds-place-end
+slice_bounds-place-end g c =
+    let fits = size_fits c.SIZE-unit.result c.min-count.result c.min.result _ _ _ c.min.ensures
+    c.min-count.ensures in
+    end_fits c.args.start _ (length c.args.buffer.now) c.requires.start fits.1
+
+pub slice_bounds-copy_from_slice-end : goal.slice_bounds-copy_from_slice-end
+slice_bounds-copy_from_slice-end g c =
+    let fits = size_fits c.SIZE-unit.result c.min-count.result c.min.result _ _ _ c.min.ensures
+    c.min-count.ensures in
+    sym (length-take-le _ c.args.row.now.now fits.0)
+
+pub copy_from_slice-requires : goal.copy_from_slice-requires
+copy_from_slice-requires g c =
+    let fits = size_fits c.SIZE-unit.result c.min-count.result c.min.result _ _ _ c.min.ensures
+    c.min-count.ensures in
+    same_size c.args.start _ c.args.buffer.now c.args.row.now.now c.requires.start fits.1 fits.0

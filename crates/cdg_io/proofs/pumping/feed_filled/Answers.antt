@@ -1,5 +1,6 @@
 use Rattle.std.proofs.Common.{◌≡◌, ◌<◌, ◌≤◌, length, take, refl, sym, ◌∙◌, arith, rules, length-take-le}
-use Rattle.cdg_io.proofs.Stops.{failed_cause, failed_end, failed_room, if_no_value, on_err}
+use Rattle.cdg_io.proofs.Stops.{if_no_value, on_err}
+use Rattle.cdg_io.proofs.ReadStops.{read_failed, read_full, read_of_size}
 use Rattle.cdg_io.proofs.PumpSteps.{Consumes-filled}
 use Rattle.cdg_io.proofs.pumping.feed_filled.Goals as goal
 
@@ -52,46 +53,14 @@ returns-clause-stays g c = tt
 
 pub returns-in_err-filled-clause-reads : goal.returns-in_err-filled-clause-reads
 returns-in_err-filled-clause-reads g c =
-    let read = c.in_err-filled.ensures.reads in
-    let failed = c.from_residual.ensures.0 in
-    let room : length c.fill.new.buf ≡ g.G.UnitStage.SIZE = search (rules, c.SIZE.ensures) in
-    let (bytes, few, took) = read.part in
-    record {
-      within = if_no_value _ c.from_residual.result failed;
-      part = on_err c.from_residual.result (bytes, omega (arith, few, room), took);
-      cut = on_err c.from_residual.result (record {
-        last = read.cut.last;
-        taken = read.cut.taken;
-        within = search (rules, arith, read.cut.within);
-        took = read.cut.took;
-        quiet = read.cut.quiet;
-        nothing = read.cut.nothing;
-      });
-      cause = failed_cause _ _ _ failed read.cause.later read.cause.failed;
-      counts = record {
-        end = failed_end _ _ _ _ failed read.counts.end.failed;
-        room = failed_room _ _ _ _ failed read.counts.room.failed;
-      };
-    }
+    read_failed _ _ _ _ _ _ c.from_residual.result c.in_err-filled.ensures.reads c.from_residual.ensures.0
+    (search (rules, c.SIZE.ensures))
 
 pub returns-then-filled-SIZE-clause-reads : goal.returns-then-filled-SIZE-clause-reads
 returns-then-filled-SIZE-clause-reads g c =
-    let read = c.in_ok-filled.ensures.reads in
-    record {
-      within = omega (arith, c.SIZE-2.ensures, c.if-filled-SIZE.true);
-      part = tt;
-      cut = tt;
-      cause = read.cause;
-      counts = record { end = search (rules, read.counts.end); room = search (rules, read.counts.room) };
-    }
+    read_of_size _ _ _ _ _ _ c.in_ok-filled.ensures.reads (search (rules, c.SIZE.ensures))
 
 pub returns-clause-reads : goal.returns-clause-reads
 returns-clause-reads g c =
-    let read = c.in_ok-filled.ensures.reads in
-    record {
-      within = search rules;
-      part = tt;
-      cut = tt;
-      cause = record { later = read.cause.later; failed = tt; same = read.cause.same };
-      counts = record { end = search (rules, read.counts.end); room = search (rules, read.counts.room) };
-    }
+    read_full _ _ _ _ _ _ c.SIZE-2.result c.SIZE-3.result c.in_ok-filled.ensures.reads
+    (search (rules, c.SIZE.ensures)) c.SIZE-2.ensures c.if-filled-SIZE.false c.SIZE-3.ensures

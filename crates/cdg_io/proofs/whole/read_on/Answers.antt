@@ -1,8 +1,20 @@
-use Rattle.std.proofs.Common.{◌≡◌, ◌<◌, ◌≤◌, ◌+◌, ◌∙◌, ◌++◌, drop, length, take, arith, length-append}
-use Rattle.std.proofs.lemmas.List.{length-drop, length-take}
+use Rattle.std.proofs.Common.{◌≡◌, ◌<◌, ◌≤◌, ◌+◌, ◌∙◌, ◌++◌, length, take, sym, arith, length-append, length-take-le}
+use Rattle.std.proofs.lemmas.List.{length-take}
 use Rattle.std.proofs.KnownBytes.{Consumes-trans}
 use Rattle.cdg_io.proofs.Stops.{Consumes-still, rose_once_since}
+use Rattle.cdg_io.proofs.ReadStops.{none_below, offer_fits, offer_some, refilled, some_at_least}
 use Rattle.cdg_io.proofs.whole.read_on.Goals as goal
+
+pub slice_bounds-chunk-end : goal.slice_bounds-chunk-end
+slice_bounds-chunk-end g c = offer_fits _ _ c.loop-count.chunk c.min-offered.ensures c.loop-count.invariant.size
+
+pub slice_bounds-take-end : goal.slice_bounds-take-end
+slice_bounds-take-end g c =
+    sym (length-take-le (c.min-offered.result + 1) c.loop-count.chunk
+    (offer_fits _ _ c.loop-count.chunk c.min-offered.ensures c.loop-count.invariant.size))
+
+pub take-requires : goal.take-requires
+take-requires g c = offer_some _ _ c.loop-count.chunk c.min-offered.ensures c.loop-count.invariant.size
 
 pub returns-in-Ok-clause-too_long : goal.returns-in-Ok-clause-too_long
 returns-in-Ok-clause-too_long g c = λ _.
@@ -29,21 +41,14 @@ loop-count-preserved g c =
     let bound : c.in-Ok.count ≤ length c.take.new.buf = c.in-Ok.ensures.bound.0 in
     let size : length more ≡ c.in-Ok.count = omega (arith, length-take c.in-Ok.count c.take.new.buf, bound) in
     record {
-      size = omega (
-        arith,
-        length-append c.take.new.buf (drop (c.min-offered.result + 1) c.loop-count.chunk),
-        length-drop (c.min-offered.result + 1) c.loop-count.chunk,
-        length-take (c.min-offered.result + 1) c.loop-count.chunk,
-        c.take.auto.buf,
-        before.size,
-        c.min-offered.ensures,
-      );
+      size =
+          refilled c.take.new.buf c.loop-count.chunk _ _ c.min-offered.ensures before.size c.take.auto.buf;
       taken = (
         xs ++ more,
         omega (arith, length-append xs more, size, count, c.if-count-room.false),
         Consumes-trans _ _ _ _ _ taken c.in-Ok.ensures.bytes.0,
       );
-      reported = c.in-Ok.ensures.counts.end.goes_on (omega (arith, c.in-Ok.count-test.1)) ∙ before.reported;
+      reported = c.in-Ok.ensures.counts.end.goes_on (some_at_least c.in-Ok.count-test.1) ∙ before.reported;
       same = c.in-Ok.ensures.cause.same ∙ before.same;
     }
 
@@ -69,11 +74,11 @@ returns-in-Ok-eq0-clause-no_memory g c = λ _.
 pub returns-in-Ok-eq0-clause-reported : goal.returns-in-Ok-eq0-clause-reported
 returns-in-Ok-eq0-clause-reported g c =
     rose_once_since c.loop-count.invariant.reported
-    (c.in-Ok-eq0.ensures.counts.end.ended (omega (arith, c.in-Ok-eq0.field-0-test)))
+    (c.in-Ok-eq0.ensures.counts.end.ended (none_below c.in-Ok-eq0.field-0-test))
 
 pub returns-in-Ok-clause-reported : goal.returns-in-Ok-clause-reported
 returns-in-Ok-clause-reported g c =
-    c.in-Ok.ensures.counts.end.goes_on (omega (arith, c.in-Ok.count-test.1)) ∙ c.loop-count.invariant.reported
+    c.in-Ok.ensures.counts.end.goes_on (some_at_least c.in-Ok.count-test.1) ∙ c.loop-count.invariant.reported
 
 pub returns-in-Err-clause-reported : goal.returns-in-Err-clause-reported
 returns-in-Err-clause-reported g c = c.in-Err.ensures.counts.end.failed ∙ c.loop-count.invariant.reported
