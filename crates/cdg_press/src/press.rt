@@ -1,16 +1,23 @@
 // Presses a file into a stream.
-ghost use Rattle.std.specs.Prelude.{◌≡◌, ◌≢◌, ◌≤◌, ◌<◌, [], IfErr, IfOk, OnOk, Err, MatchOption};
+ghost use Rattle.std.specs.Prelude.{◌≡◌, ◌≢◌, ◌≤◌, ◌<◌, ◌*◌, ℕ, List, [], IfErr, IfOk, OnErr, OnOk, Err, MatchOption};
+ghost use Rattle.std.specs.Io.KnownBytes.{Appends};
+ghost use Rattle.cdg_io.specs.Causes.{HasCause};
+ghost use Rattle.cdg_io.specs.Change.{change};
 ghost use Rattle.disc_time.specs.Counts.{most_lead_in, most_program};
 ghost use Rattle.toc_model.specs.Places.{layout_of};
 ghost use Rattle.stream_writer.specs.Needs.{text_packs, HasLayout, HasRoom};
-ghost use Rattle.cdg_press.specs.Pressed.{press_of};
+ghost use Rattle.cdg_press.specs.Pressed.{IsPackAfter, file_begin, press_of};
+ghost use Rattle.raw_subcode.specs.Sizes.{slots_a_block};
+ghost use Rattle.rw_code.specs.Packs.{idle_pack};
+ghost use Rattle.rw_interleave.specs.Interleave.{whole_packs};
+ghost use Rattle.stream_writer.specs.Given.{CarriesComing, PutsStreamPart, framing_of};
 ghost use Rattle.cdg_press.specs.Refusals.{HasNoGap, IsFirstGap, IsPressable, IsPressStop, IsShort};
 ghost use Rattle.cdg_press.specs.Written.{WritesPressed};
 
 use crate::file::{FileSource, whole_packs_of};
 use crate::laws::pressable_files_have_streams;
 use crate::stops::PressStop;
-use cdg_io::Sink;
+use cdg_io::{Failed, Sink};
 use cdtext_packs::TextPack;
 use cue_sheet::Sheet;
 use disc_time::PAUSE_BLOCKS;
@@ -62,16 +69,8 @@ pub fn press_stream<K: Sink>(
     pressable_files_have_streams();
     sheet.tracks_are_in_order();
     judge(sheet, cdg, lead_in, length)?;
-    let Ready {
-        layout,
-        texts,
-        mut spread,
-    } = Ready::of(alloc, sheet, lead_in, length)?;
-    let mut source = FileSource {
-        wait: FILE_BEGIN,
-        rest: cdg,
-    };
-    write_stream(&layout, &texts, lead_in, &mut source, &mut spread, out)?;
+    let ready = Ready::of(alloc, sheet, lead_in, length)?;
+    ready.write(cdg, lead_in, out)?;
     Ok(())
 }
 
@@ -118,6 +117,35 @@ impl Ready {
             texts: pack_texts(alloc, sheet, lead_in)?,
             spread: Spread::start(alloc)?,
         })
+    }
+
+    // Writes the stream of a file. The caller knows that the last packs, which the end of the stream cuts, are idle.
+    fn write<K: Sink>(mut self, cdg: &[u8], lead_in: u32, out: &mut K) -> Result<(), Failed>
+        requires lead_in { lead_in ≤ most_lead_in }
+        requires empty { self.spread ≡ [] }
+        requires cut { (n : ℕ) (pack : List ℕ) → whole_packs self.layout.blocks ≤ n
+            → n < slots_a_block * self.layout.blocks → IsPackAfter file_begin cdg.now n pack
+            → pack ≡ idle_pack }
+        ensures ok { OnOk result ((bytes : List ℕ) × (packs : List (List ℕ))
+            × CarriesComing (framing_of self.layout self.texts.items lead_in)
+            (IsPackAfter file_begin cdg.now) bytes packs × Appends (K.held out.old) (K.held out.new) bytes) }
+        ensures part { OnErr result ((n : ℕ) × (packs : List (List ℕ))
+            × PutsStreamPart (framing_of self.layout self.texts.items lead_in)
+            (IsPackAfter file_begin cdg.now) (change K.held out.old out.new) n packs) }
+        ensures cause { HasCause (K.faults out.old) (K.faults out.new) result }
+    {
+        let mut source = FileSource {
+            wait: FILE_BEGIN,
+            rest: cdg,
+        };
+        write_stream(
+            &self.layout,
+            &self.texts,
+            lead_in,
+            &mut source,
+            &mut self.spread,
+            out,
+        )
     }
 }
 
