@@ -3,6 +3,7 @@ mod AuthorReported
 pub mod Commands
 mod Decimals
 mod Ended
+mod FourWords
 pub mod FirstHalf
 mod LastWords
 mod LateReported

@@ -1,5 +1,5 @@
 -- How each command is spelled.
-use Rattle.std.specs.Prelude.{◌≡◌, ℕ, List, [], ◌∷◌}
+use Rattle.std.specs.Prelude.{◌≡◌, ℕ, List, [], ◌∷◌, IfSome, Option, Some}
 use Rattle.cdg_cmd.specs.Profile.{profile}
 use Rattle.cdg_cmd.specs.declared.command.Command.{Command}
 
@@ -16,3 +16,8 @@ abbrev pub Spells : Command → List (List ℕ) → Type 0
 Spells command [] = ⊥
 Spells command (name ∷ options) = (name ≡ command_name command) × IsAllowed command
     × (profile command).options options
+
+-- A name and options are read as the command that they spell, or as none if they spell none.
+abbrev pub Reads : List ℕ → List (List ℕ) → Option Command → Type 0
+Reads name options found = IfSome found (λ command. Spells command (name ∷ options))
+    × ((command : Command) → Spells command (name ∷ options) → found ≡ Some command)

@@ -1,0 +1,20 @@
+use Rattle.std.proofs.Common.{refl, rules}
+use Rattle.cdg_cmd.specs.declared.command.Command.TheVariants.{Press}
+use Rattle.cdg_cmd.proofs.Commands.{made, none_made}
+use Rattle.cdg_cmd.proofs.StreamWords.{of_press}
+use Rattle.cdg_cmd.proofs.command.read_press.Goals as goal
+
+pub returns-in_err-lead_in : goal.returns-in_err-lead_in
+returns-in_err-lead_in c = (
+  search rules,
+  λ command spelled. let (lead_in, length, is, within, below, options) = of_press command _ _ refl spelled in
+      absurd (none_made _ (c.in_err-lead_in.ensures.all lead_in length within below options)),
+)
+
+pub returns : goal.returns
+returns c = let spelled = c.in_ok-lead_in.ensures.spelled in (
+  (refl, (spelled.0, spelled.1), spelled.2),
+  λ command spelled. let (lead_in, length, is, within, below, options) = of_press command _ _ refl spelled in
+      made (λ o. Press o.lead_in o.length) _ _ command
+      (c.in_ok-lead_in.ensures.all lead_in length within below options) is,
+)

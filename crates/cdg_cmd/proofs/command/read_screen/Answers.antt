@@ -1,0 +1,22 @@
+use Rattle.std.proofs.Common.{refl, rules}
+use Rattle.cdg_cmd.specs.declared.command.Command.TheVariants.{Screen}
+use Rattle.cdg_cmd.proofs.Commands.{made, none_made}
+use Rattle.cdg_cmd.proofs.StreamWords.{of_screen}
+use Rattle.cdg_cmd.proofs.command.read_screen.Goals as goal
+
+pub returns-in_err-lead_in : goal.returns-in_err-lead_in
+returns-in_err-lead_in c = (
+  search rules,
+  λ command spelled.
+      let (lead_in, form, at, is, within, below, options) = of_screen command _ _ refl spelled in
+      absurd (none_made _ (c.in_err-lead_in.ensures.all lead_in form at within below options)),
+)
+
+pub returns : goal.returns
+returns c = let spelled = c.in_ok-lead_in.ensures.spelled in (
+  (refl, (spelled.0, spelled.1), spelled.2),
+  λ command spelled.
+      let (lead_in, form, at, is, within, below, options) = of_screen command _ _ refl spelled in
+      made (λ o. Screen o.lead_in o.form o.at) _ _ command
+      (c.in_ok-lead_in.ensures.all lead_in form at within below options) is,
+)
