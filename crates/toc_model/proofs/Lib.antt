@@ -6,3 +6,4 @@ pub mod Need
 pub mod Tracks
 pub mod SheetPlaces
 pub mod Frames
+pub mod Entries
