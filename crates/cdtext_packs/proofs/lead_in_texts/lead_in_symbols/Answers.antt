@@ -59,3 +59,18 @@ pub bounds-packs-l : goal.bounds-packs-l
 bounds-packs-l c =
     mod-lt (4 * c.args.l + c.loop-k.k) (some c.args.packs.now c.is_empty.result c.if-is_empty.false
     c.is_empty.ensures)
+
+pub overflow_mul-pack : goal.overflow_mul-pack
+overflow_mul-pack c = omega arith
+
+pub overflow_add-pack : goal.overflow_add-pack
+overflow_add-pack c = omega arith
+
+pub overflow_mul-symbols : goal.overflow_mul-symbols
+overflow_mul-symbols c = omega arith
+
+pub overflow_mul-k : goal.overflow_mul-k
+overflow_mul-k c = omega arith
+
+pub overflow_add-k : goal.overflow_add-k
+overflow_add-k c = omega arith

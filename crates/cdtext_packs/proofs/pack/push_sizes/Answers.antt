@@ -3,6 +3,7 @@ use Rattle.bit_lists.specs.Counting.{below}
 use Rattle.cdtext_packs.specs.Packs.{sealed}
 use Rattle.cdtext_packs.specs.Writing.{content_bytes, twelve, size_content, numbered}
 use Rattle.cdtext_packs.proofs.Numbered.{pushed_more, part_of_twelve}
+use Rattle.std.proofs.lemmas.Result.{IfOk-from_err}
 use Rattle.cdtext_packs.proofs.pack.push_sizes.Goals as goal
 
 pub loop-d-preserved : goal.loop-d-preserved
@@ -31,3 +32,30 @@ returns c =
     let all : c.loop-d.d ≡ 3 = omega arith in
     c.loop-d.invariant
     ∙ ap (λ (k : ℕ). old ++ numbered (length old) (map (size_content c.args.map.now) (below k))) all
+
+pub returns-in_err-push : goal.returns-in_err-push
+returns-in_err-push c = IfOk-from_err c.from_residual.result _ c.from_residual.ensures.0
+
+pub overflow_cast-count : goal.overflow_cast-count
+overflow_cast-count c = omega arith
+
+pub overflow_sub-size_bytes : goal.overflow_sub-size_bytes
+overflow_sub-size_bytes c = omega arith
+
+pub overflow_add-count : goal.overflow_add-count
+overflow_add-count c = omega arith
+
+pub overflow_mul-start : goal.overflow_mul-start
+overflow_mul-start c = omega arith
+
+pub overflow_add-text : goal.overflow_add-text
+overflow_add-text c = omega arith
+
+pub slice_bounds-text-count : goal.slice_bounds-text-count
+slice_bounds-text-count c = omega arith
+
+pub slice_bounds-text-start : goal.slice_bounds-text-start
+slice_bounds-text-start c = omega arith
+
+pub overflow_add-count-in-loop-d : goal.overflow_add-count-in-loop-d
+overflow_add-count-in-loop-d c = omega arith

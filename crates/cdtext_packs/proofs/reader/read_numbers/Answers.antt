@@ -1,4 +1,4 @@
-use Rattle.std.proofs.Common.{◌≡◌, ◌+◌, ◌-◌, ◌∙◌, Some, None, Ok, take, sym, ap, inl, inr, refl, rules}
+use Rattle.std.proofs.Common.{◌≡◌, ◌+◌, ◌-◌, ◌∙◌, Some, None, Ok, take, sym, ap, inl, inr, refl, rules, arith}
 use Rattle.std.proofs.lemmas.Result.{err_from_is_err_and}
 use Rattle.std.specs.Option.{option_map}
 use Rattle.cdtext_packs.specs.Reading.{first_missing, first_short, kind_packs, last_number, all_texts}
@@ -63,3 +63,30 @@ returns-in_err-of_packs c =
       fault = inl refl;
       refused = given_texts _ _ (all_texts used c.args.first c.args.last) read;
     })
+
+pub first_missing-requires-clause-kept : goal.first_missing-requires-clause-kept
+first_missing-requires-clause-kept c = omega arith
+
+pub first_missing-requires-clause-count : goal.first_missing-requires-clause-count
+first_missing-requires-clause-count c = omega arith
+
+pub overflow_sub-last : goal.overflow_sub-last
+overflow_sub-last c = omega arith
+
+pub overflow_add-from : goal.overflow_add-from
+overflow_add-from c = omega arith
+
+pub overflow_sub-result : goal.overflow_sub-result
+overflow_sub-result c = omega arith
+
+pub overflow_cast-result : goal.overflow_cast-result
+overflow_cast-result c = omega arith
+
+pub of_packs-requires-clause-first : goal.of_packs-requires-clause-first
+of_packs-requires-clause-first c = omega arith
+
+pub of_packs-requires-clause-last : goal.of_packs-requires-clause-last
+of_packs-requires-clause-last c = omega arith
+
+pub of_packs-requires-clause-limit : goal.of_packs-requires-clause-limit
+of_packs-requires-clause-limit c = omega arith

@@ -28,3 +28,45 @@ returns c =
           subst (λ (read : Result Texts TextFault). IfErr read (λ fault. answer ≡ Err fault)) (sym passed)
           c.read_numbers.ensures.refused;
     }
+
+pub bounds-text-1 : goal.bounds-text-1
+bounds-text-1 c = omega (arith, c.text.ensures.size)
+
+pub bounds-text-2 : goal.bounds-text-2
+bounds-text-2 c = omega (arith, c.text-2.ensures.size)
+
+pub bounds-text : goal.bounds-text
+bounds-text c = omega (arith, c.text-3.ensures.size)
+
+pub overflow_add-result : goal.overflow_add-result
+overflow_add-result c = omega arith
+
+pub overflow_cast-result : goal.overflow_cast-result
+overflow_cast-result c = omega arith
+
+pub overflow_add-result-then-last-first : goal.overflow_add-result-then-last-first
+overflow_add-result-then-last-first c = omega arith
+
+pub overflow_cast-result-then-last-first : goal.overflow_cast-result-then-last-first
+overflow_cast-result-then-last-first c = omega arith
+
+pub overflow_sub-from : goal.overflow_sub-from
+overflow_sub-from c = omega arith
+
+pub overflow_add-count : goal.overflow_add-count
+overflow_add-count c = omega arith
+
+pub read_numbers-requires-clause-kept : goal.read_numbers-requires-clause-kept
+read_numbers-requires-clause-kept c = omega arith
+
+pub read_numbers-requires-clause-few : goal.read_numbers-requires-clause-few
+read_numbers-requires-clause-few c = omega arith
+
+pub read_numbers-requires-clause-first : goal.read_numbers-requires-clause-first
+read_numbers-requires-clause-first c = omega arith
+
+pub read_numbers-requires-clause-last : goal.read_numbers-requires-clause-last
+read_numbers-requires-clause-last c = omega arith
+
+pub read_numbers-requires-clause-limit : goal.read_numbers-requires-clause-limit
+read_numbers-requires-clause-limit c = omega arith

@@ -4,6 +4,7 @@ use Rattle.cdtext_packs.specs.Packs.{pack_type, pack_text}
 use Rattle.cdtext_packs.specs.Writing.{type_of}
 use Rattle.cdtext_packs.specs.Reading.{kind_packs}
 use Rattle.cdtext_packs.proofs.KeptPacks.{slot_is, packs_skip, packs_pass, bytes_more}
+use Rattle.std.proofs.lemmas.Result.{IfOk-from_err}
 use Rattle.cdtext_packs.proofs.reading.kind_bytes.Goals as goal
 use Rattle.cdtext_packs.proofs.reading.kind_bytes.Goals.{in-Some+then-kind-pack_type+in_ok-extend_from_slice, in-Some+else-kind-pack_type, in_default}
 
@@ -47,3 +48,14 @@ loop-slot-preserved c =
           let bound = c.loop-slot.invariant.1 in
           rw w.bytes-is (c.loop-slot.invariant.0 ∙ sym same, omega arith)
     ]
+
+pub returns-in_err-extend_from_slice-clause-bytes : goal.returns-in_err-extend_from_slice-clause-bytes
+returns-in_err-extend_from_slice-clause-bytes c =
+    IfOk-from_err c.from_residual.result _ c.from_residual.ensures.0
+
+pub returns-in_err-extend_from_slice-clause-size : goal.returns-in_err-extend_from_slice-clause-size
+returns-in_err-extend_from_slice-clause-size c =
+    IfOk-from_err c.from_residual.result _ c.from_residual.ensures.0
+
+pub returns-clause-size : goal.returns-clause-size
+returns-clause-size c = omega (arith, c.loop-slot.invariant.1)

@@ -3,6 +3,7 @@ use Rattle.std.specs.List.{position_or_len, before_first, after_first}
 use Rattle.std.proofs.lemmas.List.{take_rest, drop-drop, length-drop}
 use Rattle.cdtext_packs.specs.Reading.{is_zero, ends_in, meant}
 use Rattle.cdtext_packs.proofs.Cuts.{IsCut, cut_none, cut_here, cut_more}
+use Rattle.std.proofs.lemmas.Result.{IfOk-from_err}
 use Rattle.cdtext_packs.proofs.reading.strings_in.Goals as goal
 
 pub loop-place-init : goal.loop-place-init
@@ -38,3 +39,36 @@ loop-place-preserved c =
       cut_more bytes (drop start bytes) _ c.loop-place.strings c.push.new.self c.in_ok-string.string.items
           c.loop-place._place c.loop-place.invariant.1 some string c.in_ok-push.ensures.pushed after,
     )
+
+pub returns-in_err-string-clause-strings : goal.returns-in_err-string-clause-strings
+returns-in_err-string-clause-strings c = IfOk-from_err c.from_residual.result _ c.from_residual.ensures.0
+
+pub returns-in_err-string-clause-count : goal.returns-in_err-string-clause-count
+returns-in_err-string-clause-count c = IfOk-from_err c.from_residual.result _ c.from_residual.ensures.0
+
+pub returns-in_err-string-clause-each : goal.returns-in_err-string-clause-each
+returns-in_err-string-clause-each c = IfOk-from_err c.from_residual.result _ c.from_residual.ensures.0
+
+pub returns-in_err-push-clause-strings : goal.returns-in_err-push-clause-strings
+returns-in_err-push-clause-strings c =
+    IfOk-from_err c.from_residual-in_err-push.result _ c.from_residual-in_err-push.ensures.0
+
+pub returns-in_err-push-clause-count : goal.returns-in_err-push-clause-count
+returns-in_err-push-clause-count c =
+    IfOk-from_err c.from_residual-in_err-push.result _ c.from_residual-in_err-push.ensures.0
+
+pub returns-in_err-push-clause-each : goal.returns-in_err-push-clause-each
+returns-in_err-push-clause-each c =
+    IfOk-from_err c.from_residual-in_err-push.result _ c.from_residual-in_err-push.ensures.0
+
+pub overflow_add-start : goal.overflow_add-start
+overflow_add-start c = omega arith
+
+pub overflow_add-start-in-loop-place : goal.overflow_add-start-in-loop-place
+overflow_add-start-in-loop-place c = omega arith
+
+pub slice_bounds-rest-count : goal.slice_bounds-rest-count
+slice_bounds-rest-count c = omega arith
+
+pub slice_bounds-rest-start : goal.slice_bounds-rest-start
+slice_bounds-rest-start c = omega arith

@@ -2,6 +2,7 @@ use Rattle.std.proofs.Common.{◌++◌, ◌∷◌, [], List, ℕ, length, map, a
 use Rattle.std.proofs.lemmas.List.{length-map, take_all}
 use Rattle.cdtext_packs.specs.Writing.{joined}
 use Rattle.cdtext_packs.proofs.Joined.{joined_more, string_at}
+use Rattle.std.proofs.lemmas.Result.{IfOk-from_err}
 use Rattle.cdtext_packs.proofs.map.Strings.joined.Goals as goal
 
 pub loop-string-preserved : goal.loop-string-preserved
@@ -24,3 +25,10 @@ returns c =
     c.loop-string.invariant
     ∙ ap joined (take_all c.loop-string.string-index c.args.self.now
     (omega (arith, size, same, c.loop-string-test.false, ap length c.deref-string-items.ensures.value)))
+
+pub returns-in_err-extend_from_slice : goal.returns-in_err-extend_from_slice
+returns-in_err-extend_from_slice c = IfOk-from_err c.from_residual.result _ c.from_residual.ensures.0
+
+pub returns-in_err-push : goal.returns-in_err-push
+returns-in_err-push c =
+    IfOk-from_err c.from_residual-in_err-push.result _ c.from_residual-in_err-push.ensures.0

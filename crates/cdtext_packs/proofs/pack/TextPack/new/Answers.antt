@@ -1,6 +1,6 @@
 use Rattle.std.proofs.Common.{◌≡◌, ℕ, ◌+◌, ◌-◌, ◌/◌, ◌%◌, ◌<◌, ◌≤◌, List, [], ◌∷◌, ◌++◌, length, take, drop, replicate, sym, ap, ◌∙◌, arith}
 use Rattle.std.proofs.Math.Seq.{take-append-add}
-use Rattle.std.proofs.lemmas.List.{append_assoc, append-nil, take_at, drop_at, take-replicate, drop-replicate, replicate-append-replicate}
+use Rattle.std.proofs.lemmas.List.{append_assoc, length-append, append-nil, take_at, drop_at, take-replicate, drop-replicate, replicate-append-replicate}
 use borrow.Rule.Slice.PartMut.{put_mid}
 use Rattle.bit_lists.specs.Check.{check_of}
 use Rattle.cdtext_packs.specs.Packs.{sealed}
@@ -43,6 +43,15 @@ content_written kind track number position text head copied short head_is text_i
     ∷ (xs ++ drop (length text) (replicate 14 0))) text_is
     ∙ ap (λ (xs : List ℕ). kind ∷ track ∷ number ∷ position ∷ xs) (padded text short)
 
+-- the size of the pack with its text
+size_written : (kind track number position : ℕ) (text head copied : List ℕ) → length text ≤ 12
+    → head ≡ kind ∷ track ∷ number ∷ position ∷ [] → copied ≡ text
+    → length (put_mid 4 (4 + length text - 4) (head ++ replicate 14 0) copied) ≡ 18
+size_written kind track number position text head copied short head_is text_is =
+    ap length (content_written kind track number position text head copied short head_is text_is)
+    ∙ (let whole = length-append (twelve text 0) (0 ∷ 0 ∷ []) in
+    omega (arith, whole, length-twelve text 0))
+
 check_written : (content written check_bytes : List ℕ) (check : ℕ) → length content ≡ 16
     → written ≡ content ++ 0 ∷ 0 ∷ [] → check ≡ check_of (take 16 written) → check < 65536
     → check_bytes ≡ (check / 256 % 256) ∷ (check % 256) ∷ []
@@ -71,3 +80,56 @@ returns c =
     check_written content _ c.copy_from_slice-3.new.self c.crc16-check.result (omega arith) written
     c.crc16-check.ensures c.crc16-check.type_inv
     (c.copy_from_slice-3.ensures.after ∙ c.to_be_bytes.ensures)
+
+pub slice_bounds-bytes-end : goal.slice_bounds-bytes-end
+slice_bounds-bytes-end c = omega arith
+
+pub slice_bounds-copy_from_slice-end : goal.slice_bounds-copy_from_slice-end
+slice_bounds-copy_from_slice-end c = omega arith
+
+pub slice_bounds-copy_from_slice-end-2 : goal.slice_bounds-copy_from_slice-end-2
+slice_bounds-copy_from_slice-end-2 c = omega arith
+
+pub overflow_add-text : goal.overflow_add-text
+overflow_add-text c = omega arith
+
+pub slice_bounds-copy_from_slice-count : goal.slice_bounds-copy_from_slice-count
+slice_bounds-copy_from_slice-count c = omega arith
+
+pub slice_bounds-bytes-start : goal.slice_bounds-bytes-start
+slice_bounds-bytes-start c = omega arith
+
+pub slice_bounds-copy_from_slice-count-2 : goal.slice_bounds-copy_from_slice-count-2
+slice_bounds-copy_from_slice-count-2 c = omega arith
+
+pub slice_bounds-bytes-start-2 : goal.slice_bounds-bytes-start-2
+slice_bounds-bytes-start-2 c = omega arith
+
+pub slice_bounds-copy_from_slice-end-3 : goal.slice_bounds-copy_from_slice-end-3
+slice_bounds-copy_from_slice-end-3 c = omega arith
+
+pub slice_bounds-bytes-end-3 : goal.slice_bounds-bytes-end-3
+slice_bounds-bytes-end-3 c =
+    omega (
+      arith,
+      size_written c.args.kind c.args.track c.args.number c.args.position c.args.text.now
+          c.copy_from_slice.new.self c.copy_from_slice-2.new.self c.requires c.copy_from_slice.ensures.after
+          c.copy_from_slice-2.ensures.after,
+    )
+
+pub slice_bounds-bytes-end-4 : goal.slice_bounds-bytes-end-4
+slice_bounds-bytes-end-4 c =
+    omega (
+      arith,
+      size_written c.args.kind c.args.track c.args.number c.args.position c.args.text.now
+          c.copy_from_slice.new.self c.copy_from_slice-2.new.self c.requires c.copy_from_slice.ensures.after
+          c.copy_from_slice-2.ensures.after,
+    )
+
+pub slice_bounds-bytes-end-2 : goal.slice_bounds-bytes-end-2
+slice_bounds-bytes-end-2 c =
+    omega (
+      arith,
+      length-append c.copy_from_slice.new.self (replicate 14 0),
+      ap length c.copy_from_slice.ensures.after,
+    )
