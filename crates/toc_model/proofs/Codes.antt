@@ -39,6 +39,10 @@ pub number_length : (digits : List ℕ) → is_catalogue_number digits ≡ true 
 number_length digits good = let size : (length digits == 13) ≡ true = (both _ _ good).0 in
     eqb-true (length digits) 13 size
 
+pub number_parts : (digits : List ℕ) → is_catalogue_number digits ≡ true
+    → (length digits ≡ 13) × All (λ c. is_ascii_digit c ≡ true) digits
+number_parts digits good = (number_length digits good, all_of is_ascii_digit digits (both _ _ good).1)
+
 whole : (array : Option (Bor (List ℕ))) (xs : List ℕ) (n : ℕ) → length xs ≡ n
     → MatchOption array (length xs ≢ n) (λ y. IsWholeChunk xs y.now n)
     → option_copied array ≡ Some xs

@@ -19,7 +19,8 @@ pub track_entry_at : (layout : DiscLayout) (tracks : List TrackPlace) (k : ℕ) 
     ≡ get_or (toc_entries layout) k default
 track_entry_at layout tracks k place control number start default is lt at a b c =
     let within : k < length layout.tracks = omega (arith, ap length is) in
-    let inside : k < length (map track_entry layout.tracks) = omega (arith, length-map layout.tracks track_entry) in
+    let inside : k < length (map track_entry layout.tracks) =
+    omega (arith, length-map layout.tracks track_entry) in
     let found : get_or layout.tracks k place ≡ place =
     ap (λ (ts : List TrackPlace). get_or ts k place) is ∙ sym at in
     (λ i. (a i, Track (b i) (c i)))

@@ -32,5 +32,6 @@ returns-in_default-clause-entry c =
     lead_out_entry_at c.args.self.now c.self.inside.tracks.items c.args.k c.len-count.result
     c.index-last.result.now c.last.inside.control c.of_block-start-in_default.result _
     (ap (λ (l : DiscLayout). l.tracks) (sym c.self.view_is)) (omega arith) c.self.invariant.count.0
-    (omega (arith, ap (λ (l : DiscLayout). length l.tracks) c.self.view_is)) c.index-last.ensures (ap (λ (p : TrackPlace). p.control) c.last.view_is)
+    (omega (arith, ap (λ (l : DiscLayout). length l.tracks) c.self.view_is)) c.index-last.ensures
+    (ap (λ (p : TrackPlace). p.control) c.last.view_is)
     (c.of_block-start-in_default.ensures ∙ ap (λ (l : DiscLayout). l.blocks) c.self.view_is)

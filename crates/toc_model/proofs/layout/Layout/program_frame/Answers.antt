@@ -1,10 +1,10 @@
-use Rattle.std.proofs.Common.{ap, sym, ◌∙◌, rules, tests, ◌≡◌, true, false}
+use Rattle.std.proofs.Common.{ap, sym, arith, List, length, ◌∙◌, rules, tests, ◌≡◌, true, false}
 use Rattle.std.specs.Prelude.{nat_le}
 use Rattle.std.specs.List.Sorted.{IsPartitionPoint}
 use Rattle.std.proofs.lemmas.List.Sorted.{IsPartitionPoint-from_clause, IsPartitionedBy-leb}
 use Rattle.toc_model.specs.Places.{TrackPlace, DiscLayout}
 use Rattle.disc_time.specs.Time.{frame_of}
-use Rattle.toc_model.proofs.Codes.{code_parts}
+use Rattle.toc_model.proofs.Codes.{code_parts, number_parts}
 use Rattle.toc_model.proofs.Frames.{frame_of_number, frame_of_code, time_without_number, time_in_pause, time_without_code, time_otherwise}
 use Rattle.toc_model.proofs.Tracks.{some_begun, track_found}
 use Rattle.toc_model.proofs.layout.Layout.program_frame.Goals as goal
@@ -96,3 +96,48 @@ returns-in_default-clause-frame c =
           time_otherwise c.args.self.now c.args.block c.index-place.result.now place w.in_default.is-0.0.1
           w.in_default.is-0.1
     ]
+
+pub returns-in_default-clause-valid : goal.returns-in_default-clause-valid
+returns-in_default-clause-valid c = c.time_frame.ensures.valid
+
+pub index-place-requires : goal.index-place-requires
+index-place-requires c =
+    omega (
+      arith,
+      c.partition_point-begun.ensures.bound,
+      ap (λ (ts : List TrackPlace). length ts) c.deref.ensures.value,
+      c.self.invariant.count.0,
+    )
+
+pub time_frame-requires : goal.time_frame-requires
+time_frame-requires c =
+    omega (
+      arith,
+      c.requires,
+      c.self.invariant.blocks,
+      ap (λ (l : DiscLayout). l.blocks) c.self.view_is,
+    )
+
+pub of_block-requires : goal.of_block-requires
+of_block-requires c =
+    omega (
+      arith,
+      c.requires,
+      c.self.invariant.blocks,
+      ap (λ (l : DiscLayout). l.blocks) c.self.view_is,
+    )
+
+pub of_block-requires-in-99-default-Some : goal.of_block-requires-in-99-default-Some
+of_block-requires-in-99-default-Some c =
+    omega (
+      arith,
+      c.requires,
+      c.self.invariant.blocks,
+      ap (λ (l : DiscLayout). l.blocks) c.self.view_is,
+    )
+
+pub returns-in-49-Some-default-clause-valid : goal.returns-in-49-Some-default-clause-valid
+returns-in-49-Some-default-clause-valid c =
+    let parts = number_parts c.in-49-Some-default.digits
+    (c.self.invariant.catalogue c.in-49-Some-default.digits c.in-49-Some-default.is-1) in
+    (c.place.invariant.control, parts.0, parts.1, c.frame.ensures.bound)
