@@ -1,4 +1,5 @@
 use Rattle.std.proofs.Common.{◌≡◌, ◌≢◌, ℕ, ◌+◌, ◌-◌, ◌/◌, ◌%◌, ap, sym, subst, ◌∙◌, arith, get_or}
+use Rattle.std.proofs.lemmas.List.{get_or-set_other}
 use Rattle.tile_author.specs.Plan.{weight}
 use Rattle.picture_script.specs.Board.{tile_of}
 use Rattle.picture_script.specs.Script.{picture_tile}
@@ -44,3 +45,11 @@ returns-then-kept-eq1-clause-taken c pos =
     light_tile c.light_tiles_take_one.ensures c.args.script.now c.args.k row column c.args.before.now
     c.args.now.now (omega arith) (omega arith) (omega arith) (omega arith) (c.requires.before pos)
     c.requires.now differ light
+
+pub returns-then-kept-eq1-clause-others : goal.returns-then-kept-eq1-clause-others
+returns-then-kept-eq1-clause-others c m other =
+    get_or-set_other c.args.weights.now c.args.i m c.weigh-kept.result not_weighed other
+
+pub returns-clause-others : goal.returns-clause-others
+returns-clause-others c m other =
+    get_or-set_other c.args.weights.now c.args.i m c.weigh-kept.result not_weighed other
