@@ -13,7 +13,8 @@ low_next bytes low i lt size before = (search rules, λ k k_lt. grind (arith, co
 
 pub loop-i-preserved : goal.loop-i-preserved
 loop-i-preserved c =
-    low_next c.args.bytes.now c.loop-i.low c.loop-i.i c.loop-i-test.true c.loop-i.invariant.0 c.loop-i.invariant.1
+    low_next c.args.bytes.now c.loop-i.low c.loop-i.i c.loop-i-test.true c.loop-i.invariant.0
+    c.loop-i.invariant.1
 
 pub returns : goal.returns
 returns c =
