@@ -13,3 +13,4 @@ pub mod RowMarks
 pub mod Counted
 pub mod OneDigit
 pub mod HexWords
+pub mod RectRange

@@ -7,6 +7,14 @@ use Rattle.picture_script.specs.Script.{Drawing, Border, drawn_by, lines_before,
 use Rattle.picture_script.specs.DrawnRows.{DrawsOn, KeepsRows, LeavesRows, MarksRows, AreDrawnRows}
 use Rattle.picture_script.proofs.Scripts.{before_prefix}
 
+-- if all rows are marked, no row is unmarked
+pub all_marked : (n r : ℕ) → get_or (replicate n true) r true ≡ true
+all_marked n r = elim (cases_lt r n) [
+  | inl lt ↦ get_or-replicate {A = Bool} n r true true lt
+  | inr past ↦
+      get_or_past {X = Bool} (replicate n true) r true (omega (arith, length-replicate {A = Bool} n true))
+]
+
 -- an unmarked row was unmarked before, and is not between `from` and `to`
 abbrev pub Unmarked : List Bool → List Bool → ℕ → ℕ → Type 0
 Unmarked old new from to =

@@ -3,6 +3,7 @@ use Rattle.std.specs.Prelude.{slice_index}
 use Rattle.text_lines.specs.Text.{words_in}
 use Rattle.picture_script.specs.Script.{Rect}
 use Rattle.picture_script.specs.ScriptGrammar.{rect_line}
+use Rattle.picture_script.proofs.RectRange.{rect_kept}
 use Rattle.picture_script.proofs.Refusals.{bad_line, out_of_range, in_range, five_rect, no_rect}
 use Rattle.picture_script.proofs.reader.ScriptReader.take_rect.Goals as goal
 
@@ -32,3 +33,11 @@ returns c = λ before read.
           (sym c.is_rect.ensures ∙ c.if-not-is_rect.false),
       c.take_drawing.ensures before read,
     )
+
+pub take_drawing-requires : goal.take_drawing-requires
+take_drawing-requires c =
+    let numbers = c.in-Some.numbers in
+    let kept =
+    rect_kept (slice_index numbers 0) (slice_index numbers 1) (slice_index numbers 2) (slice_index numbers 3)
+    (slice_index numbers 4) (sym c.is_rect.ensures ∙ c.if-not-is_rect.false) in
+    record { read = c.requires; kept = λ size. kept; draws = refl; alone = λ pixels. refl }

@@ -3,7 +3,7 @@ use Rattle.std.specs.Prelude.{take}
 use Rattle.picture_script.specs.Script.{Picture, drawn_by, lines_before}
 use Rattle.picture_script.specs.Lines.{said}
 use Rattle.picture_script.proofs.Drawn.{before-most, kept_at, length-all_said, next_said, said_at}
-use Rattle.picture_script.proofs.RowMarks.{between_pictures, one_line_more, reported_between}
+use Rattle.picture_script.proofs.RowMarks.{all_marked, between_pictures, one_line_more, reported_between}
 use Rattle.picture_script.proofs.Scripts.{before_rising}
 use Rattle.picture_script.proofs.script.Script.drawn_rows.Goals as goal
 
@@ -66,3 +66,6 @@ returns-clause-drawn c =
     omega (arith, c.place-from.ensures, c.place-i-end.ensures, rising) in
     reported_between script c.args.k c.place-from.result c.loop-i.i c.loop-i.rows c.place-from.ensures end
     c.loop-i.invariant.marks
+
+pub returns-then-k-eq0-clause-keeps : goal.returns-then-k-eq0-clause-keeps
+returns-then-k-eq0-clause-keeps c r unmarked = absurd (cc (all_marked 16 r))
