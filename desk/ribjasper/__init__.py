@@ -21,7 +21,7 @@ if TYPE_CHECKING:
     from .songs.songs import Line, Song, Syllable
 
 # The version of the desk, as VERSION has it but without what marks a state between two releases.
-__version__ = "1.13.0"
+__version__ = "1.13.1"
 __all__ = [
     "Damage", "Dump", "Failure", "Frame", "Line", "Mended", "Missing", "NoPlan", "Plan", "PlannedPicture", "Player", "Refusal",
     "Song", "Survey", "Syllable", "convert", "load", "mend", "plan", "read_song",
