@@ -1,5 +1,5 @@
 -- Frames of the program, with the digits of their line.
-use Rattle.std.proofs.Common.{◌≡◌, ℕ, ◌+◌, ◌*◌, ◌/◌, ◌%◌, ◌^◌, ◌<◌, ◌≤◌, Bool, true, List, [], ◌∷◌, ◌++◌, length, get_or, take, drop, None, refl, sym, ap, ap₂, ◌∙◌, arith}
+use Rattle.std.proofs.Common.{◌≡◌, ℕ, ◌+◌, ◌*◌, ◌/◌, ◌%◌, ◌^◌, ◌<◌, ◌≤◌, Bool, true, List, [], ◌∷◌, ◌++◌, length, take, drop, None, refl, sym, ap, ap₂, ◌∙◌, arith}
 use Rattle.std.specs.Prelude.{◌&&◌, nat_le, Ok, codes}
 use Rattle.std.specs.Char.{digit_char}
 use Rattle.std.proofs.lemmas.Bool.{and_parts, leb-true, lt-ltb}
@@ -7,7 +7,7 @@ use Rattle.bit_lists.specs.Bits.{bits_of_bytes}
 use Rattle.bit_lists.specs.Check.{check_bits}
 use Rattle.bit_lists.specs.Digits.{digits, hex_digits}
 use Rattle.q_channel.specs.QFrame.{field_value, is_bcd_within}
-use Rattle.q_channel.specs.QLine.{byte_digits, q_line}
+use Rattle.q_channel.specs.QLine.{q_line}
 use Rattle.q_channel.specs.QReading.{first_outside, program_ranges}
 use Rattle.q_channel.specs.ReadingOf.{reading_of}
 use Rattle.disc_time.specs.Time.{bcd_value}
@@ -38,6 +38,10 @@ program_reading bytes m kind mode track point same size is program e4 e8 e16 wit
 abbrev pub put_at : ℕ → List ℕ → List ℕ → List ℕ
 put_at at characters text = take at text ++ characters ++ drop (at + length characters) text
 
+-- the characters of the two decimal digits in a byte
+abbrev pub pair : ℕ → List ℕ
+pair byte = (48 + byte / 16) ∷ (48 + byte % 16) ∷ []
+
 decimal_char : (d n : ℕ) → d ≤ 9 → d ≡ n → 48 + d ≡ digit_char n
 decimal_char d n small same =
     ap (λ k. 48 + k) same
@@ -59,7 +63,7 @@ within low high byte h =
     record { tens = leb-true _ _ three.0; ones = leb-true _ _ three.1; most = leb-true _ _ one.1 }
 
 -- two decimal digits are the digits of their number
-pair_is : (byte n : ℕ) → byte / 16 ≤ 9 → byte % 16 ≤ 9 → n ≡ bcd_value byte → byte_digits byte ≡ digits 2 n
+pair_is : (byte n : ℕ) → byte / 16 ≤ 9 → byte % 16 ≤ 9 → n ≡ bcd_value byte → pair byte ≡ digits 2 n
 pair_is byte n tens ones is =
     ap₂ (λ a b. a ∷ b ∷ []) (decimal_char (byte / 16) (n / 10 ^ 1 % 10) tens (omega arith))
     (decimal_char (byte % 16) (n / 10 ^ 0 % 10) ones (omega arith))
@@ -78,53 +82,44 @@ frame_is a b c c_le = omega arith
 abbrev template : List ℕ
 template = codes "000000 0 track 00 index 00 00:00:00 abs 00:00:00\n"
 
--- the text of a time, by its parts
-abbrev pub timed : List ℕ → List ℕ → List ℕ → List ℕ
-timed min sec frame = min ++ codes ":" ++ sec ++ codes ":" ++ frame
-
--- the same, from the characters of its parts
-pub timed_from : (a b c : ℕ) (min sec frame : List ℕ)
-    → min ≡ byte_digits a → sec ≡ byte_digits b → frame ≡ byte_digits c
-    → get_or min 0 0 ∷ get_or min 1 0 ∷ 58 ∷ get_or sec 0 0 ∷ get_or sec 1 0 ∷ 58 ∷ get_or frame 0 0
-    ∷ get_or frame 1 0 ∷ []
-    ≡ timed (byte_digits a) (byte_digits b) (byte_digits c)
-timed_from a b c min sec frame min_is sec_is frame_is =
-    λ i. get_or (min_is i) 0 0 ∷ get_or (min_is i) 1 0 ∷ 58 ∷ get_or (sec_is i) 0 0 ∷ get_or (sec_is i) 1 0
-    ∷ 58 ∷ get_or (frame_is i) 0 0 ∷ get_or (frame_is i) 1 0 ∷ []
-
 -- the line with its digits, as the code writes them
-abbrev pub filled : List ℕ → List ℕ → List ℕ → List ℕ → List ℕ → List ℕ → List ℕ
-filled number control track index time absolute =
-    put_at 40 absolute (put_at 27 time (put_at 24 index (put_at 15 track (put_at 7 control
-    (put_at 0 number template)))))
+abbrev pub filled : List ℕ → List ℕ → List ℕ → List ℕ → List ℕ → List ℕ → List ℕ → List ℕ → List ℕ → List ℕ
+    → List ℕ
+filled number control track index m s f m2 s2 f2 =
+    put_at 46 f2 (put_at 43 s2 (put_at 40 m2 (put_at 33 f (put_at 30 s (put_at 27 m (put_at 24 index
+    (put_at 15 track
+    (put_at 7 control (put_at 0 number template)))))))))
 
-pub filled_by_steps : (number control track index time absolute l1 l2 l3 l4 l5 l6 : List ℕ)
+pub filled_by_steps : (number control track index m s f m2 s2 f2 l1 l2 l3 l4 l5 l6 l7 l8 l9 l10 : List ℕ)
     → l1 ≡ put_at 0 number template → l2 ≡ put_at 7 control l1 → l3 ≡ put_at 15 track l2
-    → l4 ≡ put_at 24 index l3 → l5 ≡ put_at 27 time l4 → l6 ≡ put_at 40 absolute l5
-    → l6 ≡ filled number control track index time absolute
-filled_by_steps number control track index time absolute l1 l2 l3 l4 l5 l6 e1 e2 e3 e4 e5 e6 =
-    e6 ∙ ap (put_at 40 absolute) (e5 ∙ ap (put_at 27 time) (e4 ∙ ap (put_at 24 index)
-    (e3 ∙ ap (put_at 15 track) (e2 ∙ ap (put_at 7 control) e1))))
+    → l4 ≡ put_at 24 index l3
+    → l5 ≡ put_at 27 m l4 → l6 ≡ put_at 30 s l5 → l7 ≡ put_at 33 f l6 → l8 ≡ put_at 40 m2 l7
+    → l9 ≡ put_at 43 s2 l8 → l10 ≡ put_at 46 f2 l9 → l10 ≡ filled number control track index m s f m2 s2 f2
+filled_by_steps number control track index m s f m2 s2 f2 l1 l2 l3 l4 l5 l6 l7 l8 l9 l10 e1 e2 e3 e4 e5 e6 e7
+    e8 e9 e10 =
+    e10 ∙ ap (put_at 46 f2) (e9 ∙ ap (put_at 43 s2) (e8 ∙ ap (put_at 40 m2) (e7 ∙ ap (put_at 33 f)
+    (e6 ∙ ap (put_at 30 s) (e5 ∙ ap (put_at 27 m) (e4 ∙ ap (put_at 24 index) (e3 ∙ ap (put_at 15 track)
+    (e2 ∙ ap (put_at 7 control) e1))))))))
 
 pub control_is : (c n : ℕ) → n < 2 ^ 4 → c ≡ digit_char n → c ∷ [] ≡ hex_digits 1 n
 control_is c n small is = ap (λ d. d ∷ []) (is ∙ ap digit_char
     (let same : n ≡ n / 16 ^ 0 % 16 = omega arith in same))
 
 -- the line of a frame of the program, by its parts
-abbrev line_of : List ℕ → List ℕ → List ℕ → List ℕ → List ℕ → List ℕ → List ℕ
-line_of number control track index time absolute =
+abbrev line_of : List ℕ → List ℕ → List ℕ → List ℕ → List ℕ → List ℕ → List ℕ → List ℕ → List ℕ → List ℕ
+    → List ℕ
+line_of number control track index m s f m2 s2 f2 =
     number ++ codes " " ++ (control ++ codes " track " ++ track ++ codes " index " ++ index
-    ++ codes " " ++ time ++ codes " abs " ++ absolute)
+    ++ codes " " ++ (m ++ codes ":" ++ s ++ codes ":" ++ f) ++ codes " abs "
+    ++ (m2 ++ codes ":" ++ s2 ++ codes ":" ++ f2))
     ++ codes "\n"
 
 -- the line that the code writes
 pub program_text : (m : List Bool) (block : ℕ) → first_outside m program_ranges ≡ None
-    → filled (digits 6 block) (hex_digits 1 (field_value m 0 4)) (byte_digits (field_value m 8 8))
-    (byte_digits (field_value m 16 8))
-    (timed (byte_digits (field_value m 24 8)) (byte_digits (field_value m 32 8))
-    (byte_digits (field_value m 40 8)))
-    (timed (byte_digits (field_value m 56 8)) (byte_digits (field_value m 64 8))
-    (byte_digits (field_value m 72 8)))
+    → filled (digits 6 block) (hex_digits 1 (field_value m 0 4)) (pair (field_value m 8 8))
+    (pair (field_value m 16 8))
+    (pair (field_value m 24 8)) (pair (field_value m 32 8)) (pair (field_value m 40 8))
+    (pair (field_value m 56 8)) (pair (field_value m 64 8)) (pair (field_value m 72 8))
     ≡ q_line block (Ok (frame_at ProgramFrame m))
 unfolding decimal_at time_value
 program_text m block h =
@@ -161,5 +156,5 @@ program_text m block h =
     let te = pair_is _ ((75 * (60 * vd + ve) + vf) / 75 % 60) e.tens e.ones
     (second_is vd ve vf e.most f.most) in
     let tf = pair_is _ ((75 * (60 * vd + ve) + vf) % 75) f.tens f.ones (frame_is vd ve vf f.most) in
-    λ i. line_of (digits 6 block) (hex_digits 1 (field_value m 0 4)) (t i) (x i)
-    (timed (ta i) (tb i) (tc i)) (timed (td i) (te i) (tf i))
+    λ i. line_of (digits 6 block) (hex_digits 1 (field_value m 0 4)) (t i) (x i) (ta i) (tb i) (tc i) (td i)
+    (te i) (tf i)

@@ -1,9 +1,9 @@
 // Frames of the program, which most blocks have. Their fields are tested without the table of ranges, and the
 // digits of the frame are copied into the line.
-ghost use Rattle.std.specs.Prelude.{◌≡◌, ◌≤◌, ◌+◌, ◌++◌, true, None, Ok, codes, length, take, drop};
+ghost use Rattle.std.specs.Prelude.{◌≡◌, ◌≤◌, ◌+◌, ◌/◌, ◌%◌, ◌++◌, ◌∷◌, [], true, None, Ok, length, take, drop};
 ghost use Rattle.bit_lists.specs.Bits.{bits_of_bytes};
 ghost use Rattle.q_channel.specs.QFrame.{field_value, is_bcd_within};
-ghost use Rattle.q_channel.specs.QLine.{byte_digits, q_line};
+ghost use Rattle.q_channel.specs.QLine.{q_line};
 ghost use Rattle.q_channel.specs.QReading.{first_outside, program_ranges};
 ghost use Rattle.q_channel.specs.ReadingOf.{reading_of};
 ghost use Rattle.q_channel.specs.Kinds.{frame_at};
@@ -84,30 +84,19 @@ pub(crate) fn program_line(block: u32, bytes: &[u8; FRAME_BYTES]) -> [u8; PROGRA
     put(&mut text, 7, &[digit(message.field(0, 4) as u8)]);
     put(&mut text, 15, &digits_of(message.byte_of_frame(8)));
     put(&mut text, 24, &digits_of(message.byte_of_frame(16)));
-    put(&mut text, 27, &digits_of_time(&message, 24));
-    put(&mut text, 40, &digits_of_time(&message, 56));
+    put(&mut text, 27, &digits_of(message.byte_of_frame(24)));
+    put(&mut text, 30, &digits_of(message.byte_of_frame(32)));
+    put(&mut text, 33, &digits_of(message.byte_of_frame(40)));
+    put(&mut text, 40, &digits_of(message.byte_of_frame(56)));
+    put(&mut text, 43, &digits_of(message.byte_of_frame(64)));
+    put(&mut text, 46, &digits_of(message.byte_of_frame(72)));
     text
-}
-
-// The text of the time that begins at a bit.
-#[inline]
-fn digits_of_time(message: &Message, first: u8) -> [u8; 8]
-    requires size { length message.now ≡ frame_bits }
-    requires within { first ≤ 72 }
-    ensures { result ≡ byte_digits (field_value message.now first 8)
-        ++ codes ":" ++ byte_digits (field_value message.now (first + 8) 8)
-        ++ codes ":" ++ byte_digits (field_value message.now (first + 16) 8) }
-{
-    let [min_tens, min] = digits_of(message.byte_of_frame(first));
-    let [sec_tens, sec] = digits_of(message.byte_of_frame(first + 8));
-    let [frame_tens, frame] = digits_of(message.byte_of_frame(first + 16));
-    [min_tens, min, b':', sec_tens, sec, b':', frame_tens, frame]
 }
 
 // The ASCII digits of a byte of two decimal digits.
 #[inline]
 fn digits_of(byte: u8) -> [u8; 2]
-    ensures { result ≡ byte_digits byte }
+    ensures { result ≡ (48 + byte / 16) ∷ (48 + byte % 16) ∷ [] }
 {
     [b'0' + byte / 16, b'0' + byte % 16]
 }
