@@ -5,6 +5,7 @@ use Rattle.std.proofs.KnownBytes.{Consumes-kept, Consumes-trans}
 use Rattle.std.proofs.lemmas.List.{length-drop, length-take, take-append-le}
 use Rattle.std.specs.Prelude.{IsErr}
 use Rattle.std.specs.Io.KnownBytes.{Consumes}
+use Rattle.cdg_io.specs.Causes.{RoseOnce}
 use Rattle.cdg_io.specs.Moves.{ConsumesBelow}
 use Rattle.cdg_io.specs.Whole.{ConsumesExactly, ReadsUpTo, ReadsWithin, StopsAtFault}
 use Rattle.cdg_io.specs.declared.ends.Source.{Ghosts as Source}
@@ -110,6 +111,13 @@ pub rest_is_below : (limit len n : ℕ) (all rest : List ℕ) → length all ≡
     → length (all ++ rest) < limit + 2
 rest_is_below limit len n all rest count within room few = omega (arith, length-append all rest)
 
+-- one more byte than the limit
+pub one_over_is_below : (n limit : ℕ) → n ≡ limit + 1 → n < limit + 2
+one_over_is_below n limit over = omega arith
+
+pub one_over_is_more : (n limit : ℕ) → n ≡ limit + 1 → limit < n
+one_over_is_more n limit over = omega arith
+
 -- ---- A chunk of 4096 bytes, of which a read was offered the first `n + 1`.
 
 pub none_below : {n : ℕ} → n ≡ 0 → n < 1
@@ -126,6 +134,12 @@ pub offer_some : (n room : ℕ) (chunk : List ℕ) → n ≡ min room 4095 → l
     → 0 < length (take (n + 1) chunk)
 offer_some n room chunk is size = omega (arith, length-take (n + 1) chunk)
 
+-- the offered part is not empty after the read either
+pub offer_is_some : (buf chunk : List ℕ) (n room : ℕ) → n ≡ min room 4095 → length chunk ≡ 4096
+    → length buf ≡ length (take (n + 1) chunk)
+    → 0 < length buf
+offer_is_some buf chunk n room is size same = omega (arith, length-take (n + 1) chunk)
+
 pub front_fits : (n : ℕ) (front rest : List ℕ) → n ≤ length front → n ≤ length (front ++ rest)
 front_fits n front rest fits = omega (arith, length-append front rest)
 
@@ -133,7 +147,8 @@ pub refilled : (buf chunk : List ℕ) (n room : ℕ) → n ≡ min room 4095 →
     → length buf ≡ length (take (n + 1) chunk)
     → length (buf ++ drop (n + 1) chunk) ≡ 4096
 refilled buf chunk n room is size same =
-    omega (arith, length-append buf (drop (n + 1) chunk), length-drop (n + 1) chunk, length-take (n + 1) chunk)
+    omega
+    (arith, length-append buf (drop (n + 1) chunk), length-drop (n + 1) chunk, length-take (n + 1) chunk)
 
 -- the bytes that a read returned were appended to the earlier bytes
 pub read_kept : (a b c : Option (List ℕ)) (old new buf rest : List ℕ) (n : ℕ) → n ≤ length buf
@@ -191,3 +206,35 @@ read_failed {S} {E} {F} source room size before after fault (Err other) read err
         room = record { full = tt; short = tt; failed = sized.counts.room.failed };
       };
     }
+
+-- the input ended after n bytes
+pub read_short : {S E : Type 0} (source : Source S) (room : ℕ) (before after : S) (n : ℕ) → n < room
+    → source.faults after ≡ source.faults before → RoseOnce (source.ends before) (source.ends after)
+    → source.fills after ≡ source.fills before
+    → ReadsUpTo {E = E} source room before after (Ok n)
+read_short source room before after n few quiet ended rest = record {
+  within = omega (arith, few);
+  part = tt;
+  cut = tt;
+  cause = record { later = omega (arith, quiet); failed = tt; same = quiet };
+  counts = record {
+    end = record { ended = λ _. ended; goes_on = λ le. absurd (omega (arith, le, few)); failed = tt };
+    room = record { full = λ le. absurd (omega (arith, le, few)); short = λ _. rest; failed = tt };
+  };
+}
+
+-- all bytes were read
+pub read_all : {S E : Type 0} (source : Source S) (room : ℕ) (before after : S) (n : ℕ) → n ≡ room
+    → source.faults after ≡ source.faults before → source.ends after ≡ source.ends before
+    → RoseOnce (source.fills before) (source.fills after)
+    → ReadsUpTo {E = E} source room before after (Ok n)
+read_all source room before after n all quiet rest full = record {
+  within = omega (arith, all);
+  part = tt;
+  cut = tt;
+  cause = record { later = omega (arith, quiet); failed = tt; same = quiet };
+  counts = record {
+    end = record { ended = λ lt. absurd (omega (arith, lt, all)); goes_on = λ _. rest; failed = tt };
+    room = record { full = λ _. full; short = λ lt. absurd (omega (arith, lt, all)); failed = tt };
+  };
+}

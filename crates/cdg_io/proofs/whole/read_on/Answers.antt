@@ -6,7 +6,8 @@ use Rattle.cdg_io.proofs.ReadStops.{none_below, offer_fits, offer_some, refilled
 use Rattle.cdg_io.proofs.whole.read_on.Goals as goal
 
 pub slice_bounds-chunk-end : goal.slice_bounds-chunk-end
-slice_bounds-chunk-end g c = offer_fits _ _ c.loop-count.chunk c.min-offered.ensures c.loop-count.invariant.size
+slice_bounds-chunk-end g c =
+    offer_fits _ _ c.loop-count.chunk c.min-offered.ensures c.loop-count.invariant.size
 
 pub slice_bounds-take-end : goal.slice_bounds-take-end
 slice_bounds-take-end g c =

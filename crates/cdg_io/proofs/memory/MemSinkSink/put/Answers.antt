@@ -1,4 +1,5 @@
-use Rattle.std.proofs.Common.{◌≡◌, ◌+◌, ◌-◌, ◌^◌, ℕ, List, length, min, inl, inr, Contains, refl, ap, sym, ◌∙◌, subst, rules, arith}
+use Rattle.std.proofs.Common.{◌≡◌, ◌+◌, ◌-◌, ◌^◌, ℕ, List, length, min, inl, inr, Contains, refl, ap, sym, ◌∙◌, subst, rules, arith, length-take-le}
+use Rattle.std.proofs.lemmas.List.{length-take}
 use Rattle.cdg_io.specs.Memory.{SinkInMemory, may_move, next_number}
 use Rattle.cdg_io.proofs.Stops.{rose_by_one}
 use Rattle.cdg_io.proofs.memory.MemSinkSink.put.Goals as goal
@@ -115,3 +116,19 @@ returns-clause-bound c = (
   omega (arith, c.min-count.ensures, c.most_of.ensures.some, c.if-room-eq0.false),
   omega (arith, c.min-count.ensures, c.most_of.ensures.within),
 )
+
+pub slice_bounds-extend_from_slice-end : goal.slice_bounds-extend_from_slice-end
+slice_bounds-extend_from_slice-end c =
+    sym (length-take-le c.min-count.result c.args.piece.now
+    (omega (arith, c.min-count.ensures, c.most_of.ensures.within)))
+
+pub unwrap-requires : goal.unwrap-requires
+unwrap-requires c =
+    c.extend_from_slice.ensures.succeeds (omega (
+      arith,
+      length-take c.min-count.result c.args.piece.now,
+      c.min-count.ensures,
+      c.len.ensures,
+      c.self.invariant.0,
+      c.self.invariant.1,
+    ))
