@@ -18,6 +18,7 @@ use Rattle.stream_writer.specs.Given.{AreGiven, CarriesComing, PutsStreamPart, f
 use Rattle.stream_writer.specs.Needs.{text_packs, HasRoom}
 use Rattle.stream_writer.proofs.Whole.{framing_with, part_with}
 use Rattle.subcode_author.specs.Authored.{IsWrittenStream, disc_of}
+use Rattle.subcode_author.specs.Inputs.{PackOf}
 use Rattle.subcode_author.specs.AuthorAnswer.{AreReady, HoldsPictures, IsAccepted}
 use Rattle.subcode_author.proofs.Prompt.{PlannedIsChange}
 
@@ -64,10 +65,6 @@ change_ends script blocks known k lt =
     let held : ready_time script k ≤ hold_time script k = known.held k lt in
     let within : hold_time script k ≤ blocks = known.within k lt in
     omega arith
-
--- `pack` is the pack at number n from here, as long as the count of the weaver is not saturated
-abbrev pub PackOf : Woven → ℕ → List ℕ → Type 0
-PackOf woven n pack = woven.given + n < most_counted → IsPackAt woven.script (woven.given + n) pack
 
 -- a weaver before its first pack
 pub record IsFirst (script : List Drawing) (woven : Woven) : Type 0 where

@@ -1,5 +1,6 @@
 pub mod Given
 pub mod Authored
+pub mod Inputs
 pub mod Stops
 pub mod AuthorAnswer
 pub mod Calls

@@ -1,11 +1,11 @@
 // Writing the stream of a sheet and a script.
-ghost use Rattle.std.specs.Prelude.{◌≡◌, ◌≤◌, ◌⊎◌, IfErr, ◌<◌, List, ℕ, IfOk, OnOk, false, slice_index_or, []};
+ghost use Rattle.std.specs.Prelude.{◌≡◌, ◌≤◌, ◌⊎◌, IfErr, ◌<◌, List, ℕ, IfOk, OnOk, false, slice_index_or};
 ghost use Rattle.disc_time.specs.Counts.{most_lead_in, most_program, time_count};
 ghost use Rattle.cdg_io.specs.Causes.{ReportsFault, HasCause};
 ghost use Rattle.pack_schedule.specs.Survey.{IsSurvey, IsWithin, IsRoomFor, IsPastEnd};
-ghost use Rattle.toc_model.specs.Places.{program_blocks, audio_need, layout_of};
+ghost use Rattle.toc_model.specs.Places.{program_blocks, audio_need};
 ghost use Rattle.subcode_author.specs.Authored.{disc_of};
-ghost use Rattle.stream_writer.specs.Needs.{text_packs};
+ghost use Rattle.subcode_author.specs.Inputs.{AreStreamInputs};
 ghost use Rattle.subcode_author.specs.Calls.{AnswersDisc, WritesDisc};
 ghost use Rattle.subcode_author.specs.AuthorAnswer.{HasRoom, HoldsPictures, IsAccepted, IsAuthorStop, IsDiscRefusal, IsDiscStop, IsPictureStop};
 ghost use Rattle.cue_sheet.specs.CueSheet.{CueSheet};
@@ -15,7 +15,7 @@ ghost use Rattle.pack_schedule.specs.declared.planner.PlanRow.{PlanRow};
 
 use crate::heap::Heap;
 use crate::stops::AuthorStop;
-use cdg_io::Sink;
+use cdg_io::{Failed, Sink};
 use cdtext_packs::TextPack;
 use cue_sheet::Sheet;
 use pack_schedule::{
@@ -56,15 +56,24 @@ struct StreamInputs<'a> {
     layout: Layout,
     texts: Vec<TextPack>,
     spread: Spread,
-    weaver: Weaver<'a>,
+    source: Scheduled<'a>,
 }
 
 impl<'a> StreamInputs<'a> {
-    ghost use Rattle.std.specs.Prelude.{◌≡◌, ◌<◌, ◌≤◌, [], IfOk};
-    ghost use Rattle.disc_time.specs.Counts.{most_program};
-    ghost use Rattle.toc_model.specs.Places.{audio_need, layout_of, program_blocks};
+    ghost use Rattle.std.specs.Prelude.{◌≡◌, ◌*◌, ◌<◌, ◌≤◌, ℕ, List, [], IfOk, OnErr, OnOk};
+    ghost use Rattle.std.specs.Io.KnownBytes.{Appends};
+    ghost use Rattle.disc_time.specs.Counts.{most_lead_in, most_program};
+    ghost use Rattle.cdg_io.specs.Causes.{HasCause};
+    ghost use Rattle.cdg_io.specs.Change.{change};
+    ghost use Rattle.raw_subcode.specs.Sizes.{slots_a_block};
+    ghost use Rattle.rw_code.specs.Packs.{idle_pack};
+    ghost use Rattle.rw_interleave.specs.Interleave.{whole_packs};
+    ghost use Rattle.toc_model.specs.Places.{audio_need, program_blocks};
     ghost use Rattle.pack_schedule.specs.Survey.{IsSurvey};
-    ghost use Rattle.stream_writer.specs.Needs.{HasRoom, text_packs};
+    ghost use Rattle.stream_writer.specs.Needs.{HasRoom};
+    ghost use Rattle.stream_writer.specs.Given.{CarriesComing, PutsStreamPart, framing_of};
+    ghost use Rattle.subcode_author.specs.Authored.{disc_of};
+    ghost use Rattle.subcode_author.specs.Inputs.{AreStreamInputs, PackOf};
 
     // Allocates the inputs for a disc with a layout, room in its lead-in and planned changes.
     fn new(
@@ -79,12 +88,7 @@ impl<'a> StreamInputs<'a> {
         requires fits { program_blocks sheet.now length ≤ most_program }
         requires room { HasRoom sheet.now lead_in }
         requires planned { IsSurvey script.now planned }
-        ensures layout { IfOk result (λ inputs. inputs.layout ≡ layout_of sheet.now length) }
-        ensures texts { IfOk result (λ inputs. 0 < lead_in → inputs.texts.items ≡ text_packs sheet.now) }
-        ensures none { lead_in ≡ 0 → IfOk result (λ inputs. inputs.texts.items ≡ []) }
-        ensures empty { IfOk result (λ inputs. inputs.spread ≡ []) }
-        ensures script { IfOk result (λ inputs. inputs.weaver.script ≡ script.now) }
-        ensures given { IfOk result (λ inputs. inputs.weaver.given ≡ 0) }
+        ensures inputs { IfOk result (AreStreamInputs (disc_of sheet.now script.now lead_in length)) }
     {
         let layout = Layout::of_sheet(alloc, sheet, length)?;
         let texts = pack_texts(alloc, sheet, lead_in)?;
@@ -94,8 +98,34 @@ impl<'a> StreamInputs<'a> {
             layout,
             texts,
             spread,
-            weaver,
+            source: Scheduled { weaver },
         })
+    }
+
+    // Writes the stream. The caller knows that the last packs, which the end of the stream cuts, are idle.
+    fn write<K: Sink>(mut self, lead_in: u32, out: &mut K) -> Result<(), Failed>
+        requires lead_in { lead_in ≤ most_lead_in }
+        requires empty { self.spread ≡ [] }
+        requires cut { (n : ℕ) (pack : List ℕ) → whole_packs self.layout.blocks ≤ n
+            → n < slots_a_block * self.layout.blocks → PackOf self.source.weaver n pack
+            → pack ≡ idle_pack }
+        ensures ok { OnOk result ((bytes : List ℕ) × (packs : List (List ℕ))
+            × CarriesComing (framing_of self.entry.layout self.entry.texts.items lead_in)
+            (PackOf self.entry.source.weaver) bytes packs × Appends (K.held out.old) (K.held out.new) bytes) }
+        ensures part { OnErr result ((n : ℕ) × (packs : List (List ℕ))
+            × PutsStreamPart (framing_of self.entry.layout self.entry.texts.items lead_in)
+            (PackOf self.entry.source.weaver) (change K.held out.old out.new) n packs) }
+        ensures cause { HasCause (K.faults out.old) (K.faults out.new) result }
+    {
+        let inputs = &mut self;
+        write_stream(
+            &inputs.layout,
+            &inputs.texts,
+            lead_in,
+            &mut inputs.source,
+            &mut inputs.spread,
+            out,
+        )
     }
 }
 
@@ -111,12 +141,7 @@ fn allocate_inputs<'a>(
     requires fits { program_blocks sheet.now length ≤ most_program }
     requires room { HasRoom sheet.now lead_in }
     requires planned { IsSurvey script.now planned }
-    ensures layout { IfOk result (λ inputs. inputs.layout ≡ layout_of sheet.now length) }
-    ensures texts { IfOk result (λ inputs. 0 < lead_in → inputs.texts.items ≡ text_packs sheet.now) }
-    ensures none { lead_in ≡ 0 → IfOk result (λ inputs. inputs.texts.items ≡ []) }
-    ensures empty { IfOk result (λ inputs. inputs.spread ≡ []) }
-    ensures script { IfOk result (λ inputs. inputs.weaver.script ≡ script.now) }
-    ensures given { IfOk result (λ inputs. inputs.weaver.given ≡ 0) }
+    ensures inputs { IfOk result (AreStreamInputs (disc_of sheet.now script.now lead_in length)) }
     ensures counted { HasCause heap.old heap.new result }
 {
     heap.asked(|alloc| StreamInputs::new(alloc, sheet, script, planned, lead_in, length))
@@ -293,16 +318,6 @@ pub fn author_planned<K: Sink>(
     // Laws: planned packs are a schedule, and the pictures of a script are in order and have sixteen colours.
     script.times_rise_and_colours_are_in_range();
     let inputs = allocate_inputs(heap, sheet, script, planned, lead_in, length)?;
-    let written = {
-        let StreamInputs {
-            layout,
-            texts,
-            mut spread,
-            weaver,
-        } = inputs;
-        let mut source = Scheduled { weaver };
-        write_stream(&layout, &texts, lead_in, &mut source, &mut spread, out)
-    };
-    written?;
+    inputs.write(lead_in, out)?;
     Ok(())
 }

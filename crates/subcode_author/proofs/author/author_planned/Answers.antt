@@ -1,4 +1,5 @@
 use Rattle.std.proofs.Common.{◌≡◌, ℕ, ◌<◌, ◌≤◌, List, ap, refl, rules, sym, subst, ◌∙◌}
+use Rattle.std.proofs.lemmas.Result.{err_from_is_err_and}
 use Rattle.cue_sheet.specs.CueSheet.{CueSheet}
 use Rattle.toc_model.specs.Places.{DiscLayout, layout_of, program_blocks}
 use Rattle.picture_script.specs.Script.{Drawing, pictures, ready_time, hold_time, picture_pixel}
@@ -36,59 +37,68 @@ same_blocks : (sheet : CueSheet) (audio : ℕ) (layout : DiscLayout) → layout 
     → program_blocks sheet audio ≡ layout.blocks
 same_blocks sheet audio layout is = sym (ap (λ (l : DiscLayout). l.blocks) is)
 
-pub write_stream-written-requires-clause-cut : goal.write_stream-written-requires-clause-cut
-write_stream-written-requires-clause-cut g c =
+pub write-requires-clause-cut : goal.write-requires-clause-cut
+write-requires-clause-cut g c =
     let known = c.times_rise_and_colours_are_in_range.ensures in
-    cut_idle c.args.script.now c.in_ok-inputs.inputs.weaver c.in_ok-inputs.inputs.layout.blocks
-    (few_blocks c.args.sheet.now c.args.length c.in_ok-inputs.inputs.layout c.in_ok-inputs.ensures.layout
-    c.requires.disc.0.1)
-    (record { script_is = c.in_ok-inputs.ensures.script; given_is = c.in_ok-inputs.ensures.given })
-    (known_script c.args.script.now (program_blocks c.args.sheet.now c.args.length)
-    c.in_ok-inputs.inputs.layout.blocks
-    (same_blocks c.args.sheet.now c.args.length c.in_ok-inputs.inputs.layout
-    c.in_ok-inputs.ensures.layout) c.requires.within
+    let is = c.in_ok-inputs.ensures.inputs in
+    let inputs = c.in_ok-inputs.inputs in
+    cut_idle c.args.script.now inputs.source.weaver inputs.layout.blocks
+    (few_blocks c.args.sheet.now c.args.length inputs.layout is.layout_is c.requires.disc.0.1)
+    (record { script_is = is.script_is; given_is = is.given_is })
+    (known_script c.args.script.now (program_blocks c.args.sheet.now c.args.length) inputs.layout.blocks
+    (same_blocks c.args.sheet.now c.args.length inputs.layout is.layout_is) c.requires.within
     (c.args.planned, c.requires.planned)
     known.held (record { border = known.borders; colour = known.colours }) known.pixels)
 
-pub returns-in_err-written-clause-written : goal.returns-in_err-written-clause-written
-returns-in_err-written-clause-written g c = record {
-  authored = search rules;
-  untouched = search rules;
-  write_fault = search rules;
-  part = λ failed.
-      part_of c.args.sheet.now c.args.script.now c.in_ok-inputs.inputs.weaver c.in_ok-inputs.inputs.layout
-      c.deref.result.now
-      c.args.lead_in c.args.length
-      (g.K.Sink.held c.args.out.now) (g.K.Sink.held c.write_stream-written.new.out)
-      c.in_ok-inputs.ensures.layout
-      (few_blocks c.args.sheet.now c.args.length c.in_ok-inputs.inputs.layout c.in_ok-inputs.ensures.layout
-      c.requires.disc.0.1)
-      (record { script_is = c.in_ok-inputs.ensures.script; given_is = c.in_ok-inputs.ensures.given })
-      (λ some. c.deref.ensures.value ∙ c.in_ok-inputs.ensures.texts some)
-      (let part = c.in_err-written.ensures.part in (part.0, part.1, part.2));
-}
+pub returns-in_err-write-clause-written : goal.returns-in_err-write-clause-written
+returns-in_err-write-clause-written g c =
+    let is = c.in_ok-inputs.ensures.inputs in
+    let inputs = c.in_ok-inputs.inputs in
+    let p =
+    err_from_is_err_and c.from_residual-in_err-write.result c.from_residual-in_err-write.ensures.1 in
+    let cause = c.in_err-write.ensures.cause in
+    record {
+      authored = rw p.1 tt;
+      untouched = rw (p.1, p.2) (λ other. absurd (other refl));
+      write_fault = record {
+        later = cause.later;
+        rose = λ _. cause.failed;
+        same = rw (p.1, p.2) (λ other. absurd (other refl));
+      };
+      part = λ failed.
+          part_of c.args.sheet.now c.args.script.now inputs.source.weaver inputs.layout inputs.texts.items
+          c.args.lead_in c.args.length
+          (g.K.Sink.held c.args.out.now) (g.K.Sink.held c.write.new.out)
+          is.layout_is
+          (few_blocks c.args.sheet.now c.args.length inputs.layout is.layout_is c.requires.disc.0.1)
+          (record { script_is = is.script_is; given_is = is.given_is })
+          is.texts_are c.in_err-write.ensures.part;
+    }
 
 pub returns-clause-written : goal.returns-clause-written
 returns-clause-written g c =
     let known = c.times_rise_and_colours_are_in_range.ensures in
+    let is = c.in_ok-inputs.ensures.inputs in
+    let inputs = c.in_ok-inputs.inputs in
     record {
       untouched = search rules;
-      write_fault = search rules;
+      write_fault = record {
+        later = c.in_ok-write.ensures.cause.later;
+        rose = search rules;
+        same = λ _. c.in_ok-write.ensures.cause.same;
+      };
       part = search rules;
       authored = authored c.packs_are_a_schedule.ensures.schedule c.args.sheet.now c.args.script.now
-          c.in_ok-inputs.inputs.weaver
-          c.in_ok-inputs.inputs.layout c.deref.result.now c.args.lead_in c.args.length
-          (g.K.Sink.held c.args.out.now) (g.K.Sink.held c.write_stream-written.new.out)
-          c.in_ok-inputs.ensures.layout
-          (few_blocks c.args.sheet.now c.args.length c.in_ok-inputs.inputs.layout
-          c.in_ok-inputs.ensures.layout
-          c.requires.disc.0.1)
-          (record { script_is = c.in_ok-inputs.ensures.script; given_is = c.in_ok-inputs.ensures.given })
-          (λ some. c.deref.ensures.value ∙ c.in_ok-inputs.ensures.texts some)
+          inputs.source.weaver inputs.layout inputs.texts.items c.args.lead_in c.args.length
+          (g.K.Sink.held c.args.out.now) (g.K.Sink.held c.write.new.out)
+          is.layout_is
+          (few_blocks c.args.sheet.now c.args.length inputs.layout is.layout_is c.requires.disc.0.1)
+          (record { script_is = is.script_is; given_is = is.given_is })
+          is.texts_are
           c.requires.room
           (known_script c.args.script.now (program_blocks c.args.sheet.now c.args.length) _ refl
           c.requires.within
           (c.args.planned, c.requires.planned)
           known.held (record { border = known.borders; colour = known.colours }) known.pixels)
-          c.in_ok-written.ensures.ok;
+          c.in_ok-write.ensures.ok;
     }
