@@ -83,3 +83,25 @@ returns-else-rest-gt0-clause-pixels c i lt =
     (rw (at_is c.self.inside.rows left c.self.inside.top (c.args.x + i) c.args.y)
     (there
     ∙ ap (λ m. get_or (get_or c.self.inside.rows m []) ((c.args.x + i + left) % 300) 0) c.wrapped.ensures))
+
+pub returns-else-rest-gt0-clause-range : goal.returns-else-rest-gt0-clause-range
+returns-else-rest-gt0-clause-range c i = elim (cases_lt i (length c.args.columns.now)) [
+  | inl lt ↦
+      let g = c.self.invariant in
+      let left = c.self.inside.left in
+      let n = c.wrapped.result in
+      let row = get_or c.self.inside.rows n [] in
+      let size : length row ≡ 300 = g.widths n (omega (arith, c.wrapped.ensures)) in
+      let first : ℕ = c.wrapped-first.result in
+      let count : ℕ = c.min-count.result in
+      let fits : first + count ≤ 300 = omega (arith, c.min-count.ensures) in
+      let there =
+      front_columns row c.write_at.new.columns c.args.columns.now c.args.x left first count
+      (first + count - first) i size g.left_below c.wrapped-first.ensures fits (omega arith)
+      (omega (arith, lt, c.requires.width)) (omega (arith, lt)) (c.write_at.ensures i) in
+      subst (λ v. v < 16) (sym there) (g.colours n ((c.args.x + i + left) % 300))
+  | inr past ↦
+      subst (λ v. v < 16)
+      (sym (get_or_past {X = ℕ} c.write_at.new.columns i 0 (omega (arith, past, c.write_at.auto.columns))))
+      (omega arith)
+]

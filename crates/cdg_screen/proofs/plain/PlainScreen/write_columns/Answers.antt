@@ -1,10 +1,12 @@
 use Rattle.std.specs.Prelude.{min}
-use Rattle.std.proofs.Common.{◌≡◌, ◌+◌, ◌-◌, ◌<◌, ◌∙◌, ℕ, drop, get_or, length, subst, sym, take, ap, inl, inr, arith}
+use Rattle.std.proofs.Common.{◌≡◌, ◌⊎◌, ◌+◌, ◌-◌, ◌<◌, ◌∙◌, ℕ, drop, get_or, length, subst, sym, take, ap, inl, inr, arith}
 use Rattle.std.proofs.lemmas.Bool.{cases_lt}
 use Rattle.std.proofs.lemmas.List.{get_or_past}
-use Rattle.cdg_screen.specs.Memory.{at, Kept}
-use Rattle.cdg_screen.proofs.WholeRows.{columns_are, length-part, small_between, window_row}
+use Rattle.cdg_screen.specs.Memory.{at, Kept, seen}
+use Rattle.cdg_screen.proofs.WholeRows.{columns_are, length-part, small_between, then_within, window_row}
+use Rattle.cdg_screen.proofs.Window.{border_pixel, no_column}
 use Rattle.cdg_screen.proofs.plain.PlainScreen.write_columns.Goals as goal
+use Rattle.cdg_screen.proofs.plain.PlainScreen.write_columns.Goals.{then-y-lt-TILE_HEIGHT-via-then-y-lt-TILE_HEIGHT, then-y-lt-TILE_HEIGHT-via-else-y-lt-TILE_HEIGHT+then-y, then-y-lt-TILE_HEIGHT-via-else-y-lt-TILE_HEIGHT+else-y+then-left-right}
 
 pub returns-clause-pixels : goal.returns-clause-pixels
 returns-clause-pixels c i lt =
@@ -106,5 +108,44 @@ returns-clause-range c i = elim (cases_lt i (length c.args.columns.now)) [
         c.copy_columns.auto.columns,
         c.fill-2.auto.columns,
       ))))
+      (omega arith)
+]
+
+pub returns-then-y-lt-TILE_HEIGHT-clause-pixels : goal.returns-then-y-lt-TILE_HEIGHT-clause-pixels
+returns-then-y-lt-TILE_HEIGHT-clause-pixels c i lt =
+    let kept : Kept = record {
+      memory = c.self.inside.memory;
+      border = c.self.inside.border;
+      colours = c.self.inside.colours;
+      levels = c.self.inside.levels;
+      h = c.self.inside.h;
+      v = c.self.inside.v;
+    } in
+    let x = c.args.x in
+    let y = c.args.y in
+    let end = length c.args.columns.now in
+    let border : get_or c.fill.new.columns i 0 ≡ c.self.inside.border =
+    c.fill.ensures i ∙ then_within 0 end i _ _ (omega arith) lt in
+    let outside : (y < 12) ⊎ ((203 < y) ⊎ ((x + i < 6) ⊎ (293 < x + i))) =
+    elim c.then-y-lt-TILE_HEIGHT.branch [
+      | then-y-lt-TILE_HEIGHT-via-then-y-lt-TILE_HEIGHT w ↦ inl w.if-y-lt-TILE_HEIGHT.true
+      | then-y-lt-TILE_HEIGHT-via-else-y-lt-TILE_HEIGHT+then-y w ↦ inr (inl (omega (arith, w.if-y.true)))
+      | then-y-lt-TILE_HEIGHT-via-else-y-lt-TILE_HEIGHT+else-y+then-left-right w ↦
+          inr (inr (no_column x i end c.min-left.result c.min-right.result lt
+          (c.min-left.ensures ∙ ap (λ n. min n end) c.saturating_sub.ensures)
+          (c.min-right.ensures ∙ ap (λ n. min n end) c.saturating_sub-2.ensures) w.if-left-right.true))
+    ] in
+    rw (← c.self.view_is)
+    (border_pixel (seen kept) (x + i) y (get_or c.fill.new.columns i 0) border outside)
+
+pub returns-then-y-lt-TILE_HEIGHT-clause-range : goal.returns-then-y-lt-TILE_HEIGHT-clause-range
+returns-then-y-lt-TILE_HEIGHT-clause-range c i = elim (cases_lt i (length c.args.columns.now)) [
+  | inl lt ↦
+      subst (λ v. v < 16)
+      (sym (c.fill.ensures i ∙ then_within 0 (length c.args.columns.now) i _ _ (omega arith) lt))
+      c.self.invariant.border_below
+  | inr past ↦
+      subst (λ v. v < 16)
+      (sym (get_or_past {X = ℕ} c.fill.new.columns i 0 (omega (arith, past, c.fill.auto.columns))))
       (omega arith)
 ]
