@@ -12,7 +12,7 @@ use Rattle.bit_lists.specs.Bits.{has_bit}
 use Rattle.bit_lists.specs.Polynomial.{exclusive_or}
 use Rattle.bit_lists.proofs.BitsLemmas.{has_bit-shr, has_bit-xor}
 use Rattle.raw_subcode.specs.Channels.{IsPlanarForm}
-use Rattle.raw_subcode.specs.Rows.{in_rows}
+use Rattle.raw_subcode.specs.Rows.{AreRows, in_rows}
 use Rattle.raw_subcode.proofs.LaneNumbers.{all_below, all_below-at}
 
 -- ---- The bits of a mask.
@@ -329,6 +329,16 @@ eight P p0 p1 p2 p3 p4 p5 p6 p7 (suc (suc (suc (suc (suc zero))))) lt = p5
 eight P p0 p1 p2 p3 p4 p5 p6 p7 (suc (suc (suc (suc (suc (suc zero)))))) lt = p6
 eight P p0 p1 p2 p3 p4 p5 p6 p7 (suc (suc (suc (suc (suc (suc (suc zero))))))) lt = p7
 eight P p0 p1 p2 p3 p4 p5 p6 p7 (suc (suc (suc (suc (suc (suc (suc (suc k)))))))) lt = absurd (omega arith)
+
+pub eight_rows : (r0 r1 r2 r3 r4 r5 r6 r7 : List ℕ) → length r0 ≡ 16 → length r1 ≡ 16 → length r2 ≡ 16
+    → length r3 ≡ 16 → length r4 ≡ 16 → length r5 ≡ 16 → length r6 ≡ 16 → length r7 ≡ 16
+    → AreRows (r0 ∷ r1 ∷ r2 ∷ r3 ∷ r4 ∷ r5 ∷ r6 ∷ r7 ∷ [])
+eight_rows r0 r1 r2 r3 r4 r5 r6 r7 s0 s1 s2 s3 s4 s5 s6 s7 = record {
+  count = refl;
+  lanes =
+      eight (λ r. length (get_or (r0 ∷ r1 ∷ r2 ∷ r3 ∷ r4 ∷ r5 ∷ r6 ∷ r7 ∷ []) r []) ≡ 16) s0 s1 s2 s3 s4 s5 s6
+      s7;
+}
 
 -- the bits of a row, lane by lane
 pub record Holds (row : List ℕ) (f : ℕ → ℕ → Bool) : Type 0 where

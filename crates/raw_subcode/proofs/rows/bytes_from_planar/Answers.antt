@@ -1,8 +1,14 @@
 use Rattle.std.proofs.Common.{◌≡◌, ◌+◌, ◌*◌, ◌<◌, ℕ, List, [], ◌∷◌}
 use Rattle.std.specs.Prelude.{slice_index}
 use Rattle.raw_subcode.specs.Rows.{in_rows}
-use Rattle.raw_subcode.proofs.RowBits.{eight, rows_form}
+use Rattle.raw_subcode.proofs.RowBits.{eight, eight_rows, rows_form}
 use Rattle.raw_subcode.proofs.rows.bytes_from_planar.Goals as goal
+
+pub turned-requires : goal.turned-requires
+turned-requires c =
+    eight_rows _ _ _ _ _ _ _ _ c.channel_row.ensures.size c.channel_row-2.ensures.size
+    c.channel_row-3.ensures.size c.channel_row-4.ensures.size c.channel_row-5.ensures.size
+    c.channel_row-6.ensures.size c.channel_row-7.ensures.size c.channel_row-8.ensures.size
 
 pub returns : goal.returns
 returns c =

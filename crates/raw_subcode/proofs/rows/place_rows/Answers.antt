@@ -1,8 +1,14 @@
 use Rattle.std.proofs.Common.{◌≡◌, ◌+◌, ◌*◌, ◌/◌, ◌<◌, ℕ, [], ◌∷◌, refl, arith}
 use Rattle.std.specs.Prelude.{slice_index}
 use Rattle.raw_subcode.specs.Rows.{in_rows}
-use Rattle.raw_subcode.proofs.RowBits.{eight, placed_in, woven_four}
+use Rattle.raw_subcode.proofs.RowBits.{eight, eight_rows, placed_in, woven_four}
 use Rattle.raw_subcode.proofs.rows.place_rows.Goals as goal
+
+pub returns-clause-rows : goal.returns-clause-rows
+returns-clause-rows c =
+    eight_rows _ _ _ _ _ _ _ _ c.woven-13.ensures.first_size c.woven-13.ensures.second_size
+    c.woven-14.ensures.first_size c.woven-14.ensures.second_size c.woven-15.ensures.first_size
+    c.woven-15.ensures.second_size c.woven-16.ensures.first_size c.woven-16.ensures.second_size
 
 pub returns-clause-lanes : goal.returns-clause-lanes
 returns-clause-lanes c = λ j k j_lt k_lt.

@@ -1,8 +1,14 @@
 use Rattle.std.proofs.Common.{◌≡◌, ◌-◌, ◌<◌, ℕ, Bool, [], ◌∷◌, get_or, refl}
 use Rattle.bit_lists.specs.Bits.{has_bit}
 use Rattle.raw_subcode.specs.Rows.{in_rows}
-use Rattle.raw_subcode.proofs.RowBits.{Holds, eight, exchanged_hold, row_bits}
+use Rattle.raw_subcode.proofs.RowBits.{Holds, eight, eight_rows, exchanged_hold, row_bits}
 use Rattle.raw_subcode.proofs.rows.turned.Goals as goal
+
+pub returns-clause-rows : goal.returns-clause-rows
+returns-clause-rows c =
+    eight_rows _ _ _ _ _ _ _ _ c.exchanged-9.ensures.upper_size c.exchanged-9.ensures.lower_size
+    c.exchanged-10.ensures.upper_size c.exchanged-10.ensures.lower_size c.exchanged-11.ensures.upper_size
+    c.exchanged-11.ensures.lower_size c.exchanged-12.ensures.upper_size c.exchanged-12.ensures.lower_size
 
 pub returns-clause-bits : goal.returns-clause-bits
 returns-clause-bits c = λ r w i r_lt w_lt lt.
