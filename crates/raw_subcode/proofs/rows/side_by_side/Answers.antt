@@ -4,6 +4,30 @@ use Rattle.std.proofs.lemmas.Bool.{cases_lt}
 use Rattle.raw_subcode.proofs.RowBits.{woven_thrice}
 use Rattle.raw_subcode.proofs.rows.side_by_side.Goals as goal
 
+pub woven-requires-clause-even : goal.woven-requires-clause-even
+woven-requires-clause-even c = c.requires.lanes 0 (omega arith)
+
+pub woven-requires-clause-odd : goal.woven-requires-clause-odd
+woven-requires-clause-odd c = c.requires.lanes 4 (omega arith)
+
+pub woven-requires-2-clause-even : goal.woven-requires-2-clause-even
+woven-requires-2-clause-even c = c.requires.lanes 1 (omega arith)
+
+pub woven-requires-2-clause-odd : goal.woven-requires-2-clause-odd
+woven-requires-2-clause-odd c = c.requires.lanes 5 (omega arith)
+
+pub woven-requires-3-clause-even : goal.woven-requires-3-clause-even
+woven-requires-3-clause-even c = c.requires.lanes 2 (omega arith)
+
+pub woven-requires-3-clause-odd : goal.woven-requires-3-clause-odd
+woven-requires-3-clause-odd c = c.requires.lanes 6 (omega arith)
+
+pub woven-requires-4-clause-even : goal.woven-requires-4-clause-even
+woven-requires-4-clause-even c = c.requires.lanes 3 (omega arith)
+
+pub woven-requires-4-clause-odd : goal.woven-requires-4-clause-odd
+woven-requires-4-clause-odd c = c.requires.lanes 7 (omega arith)
+
 pub returns : goal.returns
 returns c = λ n lt.
     let rows = c.args.rows in
