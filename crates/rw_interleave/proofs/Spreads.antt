@@ -1,5 +1,5 @@
 -- The slots that a spreader makes from a list of packs.
-use Rattle.std.proofs.Common.{◌≡◌, ◌≢◌, ℕ, zero, suc, ◌+◌, ◌-◌, ◌*◌, ◌/◌, ◌%◌, ◌<◌, ◌≤◌, cond, ltb, List, [], ◌∷◌, ◌++◌, length, length-set, get_or, set, map, drop, replicate, refl, sym, subst, ap, ap₂, ◌∙◌, arith, append_assoc, length-append, length-drop, Option, Some, None, unwrap_or, slice_get, inl, inr, rules}
+use Rattle.std.proofs.Common.{◌≡◌, ◌≢◌, ℕ, zero, suc, ◌+◌, ◌-◌, ◌*◌, ◌/◌, ◌%◌, ◌<◌, ◌≤◌, cond, ltb, List, [], ◌∷◌, ◌++◌, length, length-set, get_or, set, map, drop, replicate, refl, sym, ap, ap₂, ◌∙◌, arith, append_assoc, length-append, length-drop, Option, Some, None, unwrap_or, slice_get, inl, inr, rules}
 use Rattle.std.specs.List.{All, concat, range_with_len, AllByRecursion}
 use Rattle.std.proofs.lemmas.Bool.{cases_lt, lt-ltb, le-ltb}
 use Rattle.std.proofs.lemmas.List.{get_or_append_left, get_or-append_right, length-replicate, drop-append-le, drop-drop, get_or-drop, get_or-replicate, get_or_default}
@@ -110,10 +110,6 @@ symbols_back packs found symbols back found_is is position lt at =
 -- the symbols that come before the first pack
 pub zeros_word : IsWord (replicate 24 0)
 zeros_word = record { size = refl; symbols = search rules }
-
--- the table has positions of a slot
-pub table_within : (p : ℕ) → p < 24 → get_or SWAPPED p 0 < 24
-table_within p lt = subst (λ (k : ℕ). k < 24) (sym (swapped_is p lt)) (swapped-lt p lt)
 
 -- the three symbols of a slot that are from one pack are put
 pub spread_more : (packs : List (List ℕ)) (bytes symbols : List ℕ) (back : ℕ) → back < 8 → IsWord symbols
