@@ -1,4 +1,4 @@
-use Rattle.std.proofs.Common.{◌≡◌, ◌+◌, ◌/◌, ℕ, [], length, map, true, false, sym, ap, ◌∙◌, arith, rules}
+use Rattle.std.proofs.Common.{◌≡◌, ◌≤◌, ◌+◌, ◌/◌, ℕ, [], length, map, true, false, sym, ap, ◌∙◌, arith, rules, refl}
 use Rattle.std.proofs.lemmas.List.{length-map, take_all}
 use Rattle.cdtext_packs.specs.Texts.{strings_of, are_empty}
 use Rattle.cdtext_packs.specs.Writing.{joined}
@@ -6,6 +6,15 @@ use Rattle.cdtext_packs.proofs.Joined.{length-joined_more, string_at}
 use Rattle.cdtext_packs.proofs.Numbered.{length-kind_contents, pack_count-empty, pack_count-full}
 use Rattle.cdtext_packs.proofs.WholeTexts.{strings_fit}
 use Rattle.cdtext_packs.proofs.map.TextMap.kind_packs.Goals as goal
+use Rattle.cdtext_packs.proofs.map.TextMap.kind_packs.Goals.{After-loop-string}
+
+few_bytes : (c : After-loop-string) → c.loop-string.bytes ≤ 6710886500
+few_bytes c =
+    let fit = strings_fit c.args.self.now c.args.kind c.texts_are_of_tracks.ensures in
+    let size = length-map c.strings.inside.items.items (λ v. v.items) in
+    let same = ap length (c.strings.view_is ∙ c.strings-strings.ensures.strings) in
+    let items = ap length c.deref-string-items.ensures.value in
+    omega (arith, c.loop-string.invariant.bound, fit.count)
 
 pub returns-then-are_empty-clause-value : goal.returns-then-are_empty-clause-value
 returns-then-are_empty-clause-value c =
@@ -53,3 +62,24 @@ returns-clause-value c =
     (omega (arith, size, same, c.loop-string-test.false, ap length c.deref-string-items.ensures.value))) in
     ap (λ (n : ℕ). (n + 11) / 12) bytes
     ∙ sym (length-kind_contents c.args.self.now c.args.kind ∙ pack_count-full strings full)
+
+pub returns-then-are_empty-clause-bound : goal.returns-then-are_empty-clause-bound
+returns-then-are_empty-clause-bound c = omega arith
+
+pub overflow_add-bytes : goal.overflow_add-bytes
+overflow_add-bytes c = omega arith
+
+pub overflow_sub-result : goal.overflow_sub-result
+overflow_sub-result c = omega arith
+
+pub loop-string-init : goal.loop-string-init
+loop-string-init c = record { joined = refl; bound = omega arith }
+
+pub overflow_add-result : goal.overflow_add-result
+overflow_add-result c = omega (arith, few_bytes c)
+
+pub overflow_cast-result : goal.overflow_cast-result
+overflow_cast-result c = omega (arith, few_bytes c)
+
+pub returns-clause-bound : goal.returns-clause-bound
+returns-clause-bound c = omega (arith, few_bytes c)

@@ -10,7 +10,10 @@ pub returns-then-are_empty-4 : goal.returns-then-are_empty-4
 returns-then-are_empty-4 c =
     c.empty.ensures
     ∙ sym (none_with c.args.first c.args.titles c.args.performers c.args.songwriters c.args.codes
-    (search rules) (search rules) (search rules) (search rules))
+    (sym c.are_empty.ensures ∙ c.if-are_empty.true)
+    (sym c.are_empty-then-are_empty.ensures ∙ c.if-are_empty-2.true)
+    (sym c.are_empty-then-are_empty-2.ensures ∙ c.if-are_empty-3.true)
+    (sym c.are_empty-then-are_empty-3.ensures ∙ c.if-are_empty-4.true))
 
 -- the number of strings of each kind
 size : (c : goal.In_ok-message) → c.len-count.result ≡ length c.args.titles
