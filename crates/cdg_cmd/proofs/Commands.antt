@@ -1,6 +1,6 @@
 -- Commands that are found, or none.
 use Rattle.std.proofs.Common.{◌≡◌, ◌==◌, ℕ, IfSome, Some, None, List, [], ◌∷◌, String, string_bytes, length, rules, true, false, refl, sym, subst, ap, ◌∙◌}
-use Rattle.cdg_cmd.specs.Spelling.{Reads, Spells}
+use Rattle.cdg_cmd.specs.Spelling.{ReadsCommand, Spells}
 use Rattle.cdg_cmd.specs.Words.{texts}
 use Rattle.std.specs.declared.option.Option.{Option}
 use Rattle.cdg_cmd.specs.declared.command.Command.{Command}
@@ -33,14 +33,14 @@ some_texts (w ∷ ws) e none = (cc)
 
 -- what is read for a name is read for an equal name
 pub named : (name spelling : List ℕ) (options : List (List ℕ)) (found : Option Command) → name ≡ spelling
-    → Reads spelling options found
-    → Reads name options found
-named name spelling options found same reads = subst (λ n. Reads n options found) (sym same) reads
+    → ReadsCommand spelling options found
+    → ReadsCommand name options found
+named name spelling options found same reads = subst (λ n. ReadsCommand n options found) (sym same) reads
 
 -- what is read for the first word and the rest is read for the whole line
 pub whole_line : {A : Type 0} (words options : List (String A)) (first : String A) (name : List ℕ)
     (found : Option Command) → words ≡ first ∷ options → name ≡ string_bytes first
-    → Reads name (texts options) found
+    → ReadsCommand name (texts options) found
     → IfSome found (λ command. Spells command (texts words))
     × ((command : Command) → Spells command (texts words) → found ≡ Some command)
 whole_line words options first name found split same reads =

@@ -18,6 +18,6 @@ Spells command (name ∷ options) = (name ≡ command_name command) × IsAllowed
     × (profile command).options options
 
 -- A name and options are read as the command that they spell, or as none if they spell none.
-abbrev pub Reads : List ℕ → List (List ℕ) → Option Command → Type 0
-Reads name options found = IfSome found (λ command. Spells command (name ∷ options))
+abbrev pub ReadsCommand : List ℕ → List (List ℕ) → Option Command → Type 0
+ReadsCommand name options found = IfSome found (λ command. Spells command (name ∷ options))
     × ((command : Command) → Spells command (name ∷ options) → found ≡ Some command)

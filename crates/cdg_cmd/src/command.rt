@@ -1,7 +1,7 @@
 // Each command with its numbers, and the words and options that spell it.
 ghost use Rattle.std.specs.Prelude.{◌≡◌, ◌≢◌, ◌≤◌, ◌<◌, ◌^◌, ◌↔◌, IfSome, Some, ℕ, codes, decimal, IsTrue};
 ghost use Rattle.cdg_cmd.specs.Words.{texts, IsLeadInOption, IsLengths, IsMoment, IsScratchOptions, IsSeedOptions, IsStreamOptions, IsTimedOptions, form_name, IsFormOption};
-ghost use Rattle.cdg_cmd.specs.Spelling.{Reads, Spells};
+ghost use Rattle.cdg_cmd.specs.Spelling.{ReadsCommand, Spells};
 ghost use Rattle.cdg_workload.specs.Script.{most_generated};
 ghost use Rattle.disc_time.specs.Counts.{most_lead_in, time_count};
 ghost use Rattle.raw_subcode.specs.declared.form.Form.{Form};
@@ -61,7 +61,7 @@ pub fn read_words(words: &[String]) -> Option<Command>
 }
 
 fn read_command(name: &str, options: &[String]) -> Option<Command>
-    ensures { Reads name.now (texts options.now) result }
+    ensures { ReadsCommand name.now (texts options.now) result }
 {
     match name {
         "convert" => read_convert(options),
@@ -86,98 +86,98 @@ fn read_command(name: &str, options: &[String]) -> Option<Command>
 }
 
 fn read_convert(options: &[String]) -> Option<Command>
-    ensures { Reads (codes "convert") (texts options.now) result }
+    ensures { ReadsCommand (codes "convert") (texts options.now) result }
 {
     let StreamOptions { lead_in, form } = read_stream(options)?;
     Some(Command::Convert { lead_in, form })
 }
 
 fn read_screen(options: &[String]) -> Option<Command>
-    ensures { Reads (codes "screen") (texts options.now) result }
+    ensures { ReadsCommand (codes "screen") (texts options.now) result }
 {
     let TimedOptions { lead_in, form, at } = read_timed(options)?;
     Some(Command::Screen { lead_in, form, at })
 }
 
 fn read_state(options: &[String]) -> Option<Command>
-    ensures { Reads (codes "state") (texts options.now) result }
+    ensures { ReadsCommand (codes "state") (texts options.now) result }
 {
     let TimedOptions { lead_in, form, at } = read_timed(options)?;
     Some(Command::State { lead_in, form, at })
 }
 
 fn read_check(options: &[String]) -> Option<Command>
-    ensures { Reads (codes "check") (texts options.now) result }
+    ensures { ReadsCommand (codes "check") (texts options.now) result }
 {
     let StreamOptions { lead_in, form } = read_stream(options)?;
     Some(Command::Check { lead_in, form })
 }
 
 fn read_q(options: &[String]) -> Option<Command>
-    ensures { Reads (codes "q") (texts options.now) result }
+    ensures { ReadsCommand (codes "q") (texts options.now) result }
 {
     let StreamOptions { lead_in, form } = read_blocks(options)?;
     Some(Command::Q { lead_in, form })
 }
 
 fn read_text(options: &[String]) -> Option<Command>
-    ensures { Reads (codes "text") (texts options.now) result }
+    ensures { ReadsCommand (codes "text") (texts options.now) result }
 {
     let StreamOptions { lead_in, form } = read_blocks(options)?;
     Some(Command::Text { lead_in, form })
 }
 
 fn read_author(options: &[String]) -> Option<Command>
-    ensures { Reads (codes "author") (texts options.now) result }
+    ensures { ReadsCommand (codes "author") (texts options.now) result }
 {
     let Lengths { lead_in, length } = read_lengths(options)?;
     Some(Command::Author { lead_in, length })
 }
 
 fn read_scratch(options: &[String]) -> Option<Command>
-    ensures { Reads (codes "scratch") (texts options.now) result }
+    ensures { ReadsCommand (codes "scratch") (texts options.now) result }
 {
     let ScratchOptions { lead_in, seed } = read_scratches(options)?;
     Some(Command::Scratch { lead_in, seed })
 }
 
 fn read_gen(options: &[String]) -> Option<Command>
-    ensures { Reads (codes "gen") (texts options.now) result }
+    ensures { ReadsCommand (codes "gen") (texts options.now) result }
 {
     let SeedOptions { seed, pictures } = read_seeded(options)?;
     Some(Command::Gen { seed, pictures })
 }
 
 fn read_trial(options: &[String]) -> Option<Command>
-    ensures { Reads (codes "trial") (texts options.now) result }
+    ensures { ReadsCommand (codes "trial") (texts options.now) result }
 {
     let SeedOptions { seed, pictures } = read_seeded(options)?;
     Some(Command::Trial { seed, pictures })
 }
 
 fn read_merge(options: &[String]) -> Option<Command>
-    ensures { Reads (codes "merge") (texts options.now) result }
+    ensures { ReadsCommand (codes "merge") (texts options.now) result }
 {
     let lead_in = only_lead_in(options)?;
     Some(Command::Merge { lead_in })
 }
 
 fn read_press(options: &[String]) -> Option<Command>
-    ensures { Reads (codes "press") (texts options.now) result }
+    ensures { ReadsCommand (codes "press") (texts options.now) result }
 {
     let Lengths { lead_in, length } = read_lengths(options)?;
     Some(Command::Press { lead_in, length })
 }
 
 fn read_save(options: &[String]) -> Option<Command>
-    ensures { Reads (codes "save") (texts options.now) result }
+    ensures { ReadsCommand (codes "save") (texts options.now) result }
 {
     let lead_in = only_lead_in(options)?;
     Some(Command::Save { lead_in })
 }
 
 fn read_resume(options: &[String]) -> Option<Command>
-    ensures { Reads (codes "resume") (texts options.now) result }
+    ensures { ReadsCommand (codes "resume") (texts options.now) result }
 {
     let at = only_moment(options)?;
     Some(Command::Resume { at })
