@@ -45,7 +45,7 @@ done
 # No name is defined twice, and no line is too long.
 tools/check/check_names.py || complain "tools/check/check_names.py finds wrong names or lines"
 
-# `make` proves complete copies of the crates.
+# `make` proves the right crates, in the right order.
 output=$(tools/build/test_proving.py 2>&1) || complain "tools/build/test_proving.py fails: $(echo "$output" | tail -n 6)"
 
 # The script that wraps proof lines changes only white space.
@@ -54,7 +54,7 @@ output=$(tools/write/test_wrapping.py 2>&1) || complain "tools/write/test_wrappi
 # The old text of each edit occurs exactly once in the file that it names.
 tools/check/check_edits.py || complain "tools/check/check_edits.py finds wrong edits"
 
-# The checker refuses the wrong bodies of slow crates, function by function, over the proofs of the gate or of `make`.
+# The checker refuses the wrong bodies of slow crates, function by function, over the libraries of the gate.
 LIMIT=3000
 try tools/check/try_wrong_bodies.py --by-function || complain "a wrong body is not refused"
 LIMIT=1200
